@@ -1,4 +1,5 @@
 """What tests of the built program share: folders in which it runs, scripts for it, its service, and the rows that it keeps."""
+import functools
 import http.client
 import itertools
 import json
@@ -8,6 +9,7 @@ import shutil
 import socket
 import sqlite3
 import subprocess
+import sys
 import tempfile
 import time
 from collections import namedtuple
@@ -15,6 +17,9 @@ from datetime import datetime, timedelta
 from pathlib import Path
 
 HERE = Path(__file__).resolve().parent.parent
+sys.path.append(str(HERE / "tools"))
+from ports import free_port
+
 PROGRAM = HERE / "crates" / "release_desk" / "out" / "release_desk"
 TABLES = HERE / "examples" / "morning"
 SMALL = HERE / "crates" / "scenarios" / "data" / "small_airline"
@@ -24,6 +29,10 @@ STATIONS = ("KGEG", "KBOI", "CYVR")
 NOW = datetime(2026, 11, 12, 14, 0)
 META, REPORT, DEFERRAL, RELEASE, REPLY, ALERT = range(6)
 LISTENS = "0A"
+# how many seconds a test waits for what takes a moment where the machine has nothing else to do
+PATIENCE = 60
+# how much earlier a test may see an end than the service's clock tells
+EARLY = 0.5
 # where files cost no time, if there is such a place
 QUICK = "/dev/shm" if os.access("/dev/shm", os.W_OK) else None
 
@@ -48,6 +57,10 @@ class Differs(Exception):
     pass
 
 
+class Late(Differs):
+    """A time that isn't as it should be, which may be the machine's fault."""
+
+
 class Skipped(Exception):
     pass
 
@@ -60,6 +73,25 @@ def expect(what, wanted, got):
 def hold(test, *words):
     if not test:
         raise Differs(" ".join(str(word) for word in words)[:4000])
+
+
+def in_time(test, *words):
+    if not test:
+        raise Late(" ".join(str(word) for word in words)[:4000])
+
+
+def tried(case):
+    """A case that is played up to three times while it is late: on a busy machine one try of three is enough. Whatever else differs
+    fails at once."""
+    @functools.wraps(case)
+    def played(*words):
+        for _ in range(2):
+            try:
+                return case(*words)
+            except Late as why:
+                print("%s: once more: %s" % (case.__name__.replace("_", " "), why), flush=True)
+        return case(*words)
+    return played
 
 
 def shown(moment):
@@ -189,11 +221,11 @@ class Desk:
         (self.folder / name).write_bytes(data)
         return name
 
-    def start(self, *words, out=subprocess.DEVNULL, before=None):
-        return subprocess.Popen([str(self.program), *words], cwd=self.folder, stdin=subprocess.DEVNULL, stdout=out,
-                                stderr=subprocess.DEVNULL, preexec_fn=before)
+    def start(self, *words, out=subprocess.DEVNULL, err=subprocess.DEVNULL, before=None):
+        return subprocess.Popen([str(self.program), *words], cwd=self.folder, stdin=subprocess.DEVNULL, stdout=out, stderr=err,
+                                preexec_fn=before)
 
-    def ran(self, *words, seconds=60, before=None):
+    def ran(self, *words, seconds=2 * PATIENCE, before=None):
         with tempfile.TemporaryFile() as out:
             process = self.start(*words, out=out, before=before)
             status, most = wait(process, seconds)
@@ -207,7 +239,7 @@ class Desk:
     def done(self, calls):
         """What a run of calls says that ends well: the replies, and the closing text."""
         calls = list(calls)
-        run = self.run(calls, seconds=60 + len(calls) // 200)
+        run = self.run(calls, seconds=2 * PATIENCE + len(calls) // 200)
         expect("the status of a run that says %.200s" % run.said, 0, run.status)
         lines = run.said.decode().splitlines(keepends=True)
         return [json.loads(it) for it in lines[:len(calls)]], "".join(lines[len(calls):])
@@ -333,28 +365,46 @@ def listening(port):
     return False
 
 
-def free_port():
-    with socket.create_server(("127.0.0.1", 0)) as free:
-        return free.getsockname()[1]
+class Link(http.client.HTTPConnection):
+    """A connection for one request after another. `silent` is how many seconds it had been silent when the latest request was sent."""
+
+    def connect(self):
+        self.last, self.silent = time.monotonic(), 0.0
+        super().connect()
+
+    def send(self, data):
+        try:
+            super().send(data)
+        finally:
+            self.silent = time.monotonic() - self.last
+
+    def getresponse(self):
+        answer = super().getresponse()
+        self.last = time.monotonic()
+        return answer
 
 
 class Service:
-    """The program, serving in a desk's folder. It is killed where the block ends, if it hasn't ended."""
+    """The program, which serves so many connections in a desk's folder. It is killed where the block ends, if it hasn't ended."""
+
+    # how many seconds a connection may be silent, and after how many the service may end it at the earliest
+    idle = least = 30
 
     def __init__(self, desk, connections=1000, **how):
-        self.port = free_port()
-        self.out = tempfile.TemporaryFile()
-        self.process = desk.start("serve", str(self.port), str(connections), out=self.out, **how)
+        self.start(desk, free_port(), "serve", str(connections), **how)
+
+    def start(self, desk, port, command, *words, **how):
+        self.port, self.out = port, tempfile.TemporaryFile()
+        self.process = desk.start(command, str(port), *words, out=self.out, **how)
 
     def listens(self):
         """Whether it comes to listen before it ends."""
-        for _ in range(2_000):
-            if listening(self.port):
-                return True
-            if self.process.poll() is not None:
-                break
+        last = time.monotonic() + PATIENCE
+        while not listening(self.port):
+            if self.process.poll() is not None or time.monotonic() > last:
+                return False
             time.sleep(0.005)
-        return False
+        return True
 
     def __enter__(self):
         if self.listens():
@@ -369,16 +419,45 @@ class Service:
             self.process.wait()
         self.out.close()
 
-    def ended(self, seconds=60):
+    def ended(self, seconds=2 * PATIENCE):
         status, most = wait(self.process, seconds)
         self.out.seek(0)
         return Ran(status, self.out.read(), most)
 
-    def connected(self, seconds=10):
+    def connected(self, seconds=PATIENCE):
         return socket.create_connection(("127.0.0.1", self.port), timeout=seconds)
 
-    def link(self, seconds=10):
-        return http.client.HTTPConnection("127.0.0.1", self.port, timeout=seconds)
+    def link(self, seconds=PATIENCE):
+        return Link("127.0.0.1", self.port, timeout=seconds)
+
+    def may_have_ended(self, link):
+        """Whether a connection was silent for so long that the service may have ended it, as happens where the machine stalls."""
+        return link.silent > self.least - min(EARLY, self.least / 4)
+
+
+class Staying(Service):
+    """The program, which serves in a desk's folder until it is ended, with what it writes to standard error."""
+
+    # (a fifth of a second if all its workers are taken)
+    idle, least = 5, 0.2
+
+    def __init__(self, desk, port=0):
+        self.err = tempfile.TemporaryFile()
+        self.start(desk, port or free_port(), "stay", err=self.err)
+
+    def __exit__(self, *_):
+        super().__exit__()
+        self.err.close()
+
+    def told(self):
+        """What it has written to standard error so far."""
+        return os.pread(self.err.fileno(), 1 << 20, 0).decode(errors="replace")
+
+    def ended_by(self, number):
+        """Ends it by a signal, which it must do at once, without a word."""
+        self.process.send_signal(number)
+        run = self.ended()
+        expect("status and output after signal %d" % number, (-number, b""), (run.status, run.said))
 
 
 def asked(link, call):

@@ -1,7 +1,8 @@
 """Clients of a service that cost little, and a program that answers in its place, for `tools/measure`.
 
-Each client is a connection that is kept: it sends its next request as soon as the last one is answered. They are dealt out to as many
-processes as there are processors, so that they don't wait for one another within Python.
+Each client sends its next request as soon as the last one is answered. Those of `load` keep their connections, those of `load_renewed` open a
+new one now and then, as nginx does. Clients are dealt out to as many processes as there are processors, so that they don't wait for one
+another within Python.
 """
 import array
 import math
@@ -27,12 +28,6 @@ def rate(load):
 def part(load, share):
     """The wait that so large a share of all waits doesn't pass."""
     return load.waits[min(int(len(load.waits) * share), len(load.waits) - 1)]
-
-
-def free_port():
-    with socket.socket() as it:
-        it.bind(("127.0.0.1", 0))
-        return it.getsockname()[1]
 
 
 def connected(port):
@@ -135,6 +130,134 @@ def load(ports, streams, seconds, most=math.inf, at_begin=lambda: None, at_end=l
     began, ended, used, waits, said = zip(*found)
     every = sorted(wait for it in waits for wait in array.array("d", it))
     return Load(len(every), max(ended) - min(began), every, sum(used), said[-1])
+
+
+class Renewed:
+    """A client that opens a new connection after so many requests. It sends a request again, over a new connection, if it gets no answer."""
+
+    def __init__(self, port, requests, each, poll, links):
+        self.port, self.requests, self.each, self.poll, self.links = port, requests, each, poll, links
+        self.lost = 0
+        self.request, self.asked = next(requests), time.monotonic()
+        self.open()
+
+    def open(self):
+        self.link, self.left, self.said, self.is_open = socket.socket(), self.each, b"", False
+        self.link.setblocking(False)
+        self.link.setsockopt(socket.IPPROTO_TCP, socket.TCP_NODELAY, 1)
+        self.link.connect_ex(("127.0.0.1", self.port))
+        self.links[self.link.fileno()] = self
+        self.poll.register(self.link, select.EPOLLOUT)
+
+    def close(self):
+        self.poll.unregister(self.link)
+        del self.links[self.link.fileno()]
+        self.link.close()
+
+    def again(self):
+        """Opens another connection. Where none can be had, the service starts again."""
+        self.lost += self.is_open
+        self.close()
+        if not self.is_open:
+            time.sleep(0.001)
+        self.open()
+
+    def moves(self):
+        """Goes on as far as it can without waiting. Returns whether an answer is whole."""
+        try:
+            if not self.is_open:
+                if self.link.getsockopt(socket.SOL_SOCKET, socket.SO_ERROR):
+                    self.again()
+                    return False
+                self.is_open = True
+                self.link.sendall(self.request)
+                self.poll.modify(self.link, select.EPOLLIN)
+                return False
+            some = self.link.recv(65536)
+        except OSError:
+            some = b""
+        if not some:
+            self.again()
+            return False
+        self.said += some
+        head, found, body = self.said.partition(b"\r\n\r\n")
+        return bool(found) and len(body) >= next(int(it.split(b":")[1]) for it in head.split(b"\r\n") if it.lower().startswith(b"content-length"))
+
+    def next(self):
+        """Sends the next request."""
+        if not self.said.startswith(OK):
+            sys.exit(f"a request is answered {self.said[:300]!r}")
+        self.request, self.asked, self.said = next(self.requests), time.monotonic(), b""
+        self.left -= 1
+        if not self.left:
+            self.close()
+            self.open()
+            return
+        try:
+            self.link.sendall(self.request)
+        except OSError:
+            self.again()
+
+
+def renewed(port, streams, seconds, each, barrier, tell):
+    """Plays such clients of one process. Each request counts that began in time, whenever it is answered; half a minute later it is given up."""
+    poll, links, waits, answered = select.epoll(), {}, array.array("d"), 0
+    barrier.wait()
+    until, used = time.monotonic() + seconds, time.process_time()
+    clients = [Renewed(port, it, each, poll, links) for it in streams]
+    while links and time.monotonic() < until + 30:
+        for fd, _ in poll.poll(0.1):
+            client = links.get(fd)
+            if client is None or not client.moves():
+                continue
+            now = time.monotonic()
+            waits.append(now - client.asked)
+            answered += now < until
+            if now < until:
+                client.next()
+            else:
+                client.close()
+    waits.extend(seconds + 30 for _ in links)
+    tell.send((answered, waits.tobytes(), time.process_time() - used, sum(it.lost for it in clients)))
+
+
+def load_renewed(port, streams, seconds, each):
+    """What clients see who send these streams of requests for so many seconds, each over a new connection after so many requests. The last
+    part is how often a connection ended without an answer."""
+    told, barrier = [], FORK.Barrier(len(dealt(streams)))
+    for hand in dealt(streams):
+        ours, theirs = FORK.Pipe(False)
+        FORK.Process(target=renewed, args=(port, hand, seconds, each, barrier, theirs), daemon=True).start()
+        theirs.close()
+        told.append(ours)
+    answered, waits, used, lost = zip(*(it.recv() for it in told))
+    return Load(sum(answered), seconds, sorted(wait for it in waits for wait in array.array("d", it)), sum(used), sum(lost))
+
+
+def keep_silent(port, count):
+    """Keeps so many connections that say nothing, each of which comes again as soon as it was ended. Others come first."""
+    time.sleep(0.3)
+    poll, links = select.epoll(), {}
+    while True:
+        while len(links) < count:
+            link = socket.socket()
+            link.setblocking(False)
+            link.connect_ex(("127.0.0.1", port))
+            links[link.fileno()] = link
+            poll.register(link, select.EPOLLIN)
+        for fd, _ in poll.poll():
+            poll.unregister(fd)
+            links.pop(fd).close()
+
+
+def load_beside_silent(port, streams, seconds, silent):
+    """As `load_renewed`, where connections are kept unless the service ends them, beside so many connections that say nothing."""
+    other = FORK.Process(target=keep_silent, args=(port, silent), daemon=True)
+    other.start()
+    found = load_renewed(port, streams, seconds, math.inf)
+    other.kill()
+    other.join()
+    return found
 
 
 def answer_all(door, count, answer):

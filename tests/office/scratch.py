@@ -5,18 +5,24 @@ Each wait is for a condition, and ends after some seconds by a fault. What is st
 import contextlib
 import ctypes
 import os
-import random
+import re
 import shlex
 import shutil
 import signal
 import socket
+import ssl
 import subprocess
+import sys
 import tempfile
+import threading
 import time
 from datetime import datetime, timedelta, timezone
 from pathlib import Path
 
 HERE = Path(__file__).resolve().parent.parent.parent
+sys.path.append(str(HERE / "tools"))
+from ports import free_port
+
 OFFICE = HERE / "office"
 TABLES = HERE / "examples" / "one_flight"
 # The built program; DESK_PROGRAM names another command that takes the same words.
@@ -29,6 +35,15 @@ PR_SET_PDEATHSIG = 1
 
 class Failed(Exception):
     """Something isn't as it should be."""
+
+
+class Late(Failed):
+    """A time that isn't as it should be, which may be the machine's fault."""
+
+
+def in_time(holds, what):
+    if not holds:
+        raise Late(what)
 
 
 def expect(what, holds, got=""):
@@ -64,23 +79,43 @@ def stops_by_fault():
         signal.signal(number, stop)
 
 
-def free_port():
-    """A port that nobody has, below those that the system gives to whoever calls out."""
-    while True:
-        port = random.randrange(10_000, 20_000)
-        with contextlib.suppress(OSError), socket.create_server(("127.0.0.1", port)):
-            return port
+def is_overloaded():
+    """Whether more programs want to run than can, in the last minute or in the last ten seconds."""
+    told = Path("/proc/pressure/cpu")
+    some = re.search(r"some avg10=([0-9.]+)", told.read_text()) if told.exists() else None
+    return os.getloadavg()[0] > os.cpu_count() or bool(some and float(some[1]) > 25)
+
+
+class Stalls(threading.Thread):
+    """Adds up in `lost`, for a minute, for how many seconds this process didn't run although it was to."""
+
+    def __init__(self):
+        super().__init__(daemon=True)
+        self.lost = 0.0
+        self.start()
+
+    def run(self):
+        end = time.monotonic() + PATIENCE
+        while time.monotonic() < end:
+            began = time.monotonic()
+            time.sleep(0.1)
+            self.lost += max(0.0, time.monotonic() - began - 0.3)
 
 
 def moment(minutes):
     return (datetime.now(timezone.utc) + timedelta(minutes=minutes)).strftime("%Y-%m-%dT%H:%MZ")
 
 
-def forecast(station, said, amended=""):
-    """A TAF that was issued now and is valid for a day and more."""
+def period(now, hours):
+    """A period from now on, as a forecast writes it."""
+    return now.strftime("%d%H") + "/" + (now + timedelta(hours=hours)).strftime("%d%H")
+
+
+def forecast(station, said, amended="", worse=""):
+    """A TAF that was issued now and is valid for a day and more. `worse` is what it says of the next four hours besides."""
     now = datetime.now(timezone.utc)
-    period = now.strftime("%d%H") + "/" + (now + timedelta(hours=28)).strftime("%d%H")
-    return "TAF %s%s %s %s 16008KT %s" % (amended, station, now.strftime("%d%H%MZ"), period, said)
+    besides = " TEMPO %s %s" % (period(now, 4), worse) if worse else ""
+    return "TAF %s%s %s %s 16008KT %s%s" % (amended, station, now.strftime("%d%H%MZ"), period(now, 28), said, besides)
 
 
 LIBC = ctypes.CDLL(None)
@@ -108,10 +143,10 @@ class Service:
         with contextlib.suppress(ProcessLookupError):
             os.killpg(self.process.pid, how)
         try:
-            self.process.wait(20)
+            self.process.wait(PATIENCE)
         except subprocess.TimeoutExpired:
             os.killpg(self.process.pid, signal.SIGKILL)
-            self.process.wait(20)
+            self.process.wait(PATIENCE)
             raise Failed("%s doesn't end when it is told to" % self.process.args[0]) from None
 
 
@@ -136,13 +171,12 @@ class Office:
         self.url = "https://127.0.0.1:%d/" % self.port
         self.services, self.practice = {}, None
 
-    def start_desk(self, again=False):
-        """Serves the desk, and where `again` is true anew each time that its 1,000 connections are used up."""
-        loop = ["bash", "-c", 'trap : TERM; while "$@"; do :; done', "desk"] if again else []
-        self.services["desk"] = Service([*loop, *PROGRAM, "serve", str(self.desk_port), "1000"], self.state, self.folder / "desk.log")
+    def start_desk(self):
+        self.services["desk"] = Service([*PROGRAM, "stay", str(self.desk_port)], self.state, self.folder / "desk.log")
         until("the desk listens", lambda: self.services["desk"].listens(self.desk_port))
 
-    def start_nginx(self):
+    def start_nginx(self, changes=()):
+        """Starts nginx with its configuration, in which each old text of `changes` is replaced by the new one."""
         tls = self.folder / "tls"
         made = ended("openssl", "req", "-x509", "-newkey", "rsa:2048", "-nodes", "-days", "2", "-subj", "/CN=127.0.0.1",
                      "-keyout", "%s.key" % tls, "-out", "%s.crt" % tls)
@@ -151,7 +185,7 @@ class Office:
         for old, new in (("listen 80;", "listen 127.0.0.1:%d;" % self.http_port), ("listen [::]:80;", ""),
                          ("listen 443 ssl", "listen 127.0.0.1:%d ssl" % self.port), ("listen [::]:443 ssl http2;", ""),
                          ("127.0.0.1:8080", "127.0.0.1:%d" % self.desk_port), ("/etc/vomidegu-desk/tls", str(tls)),
-                         ("/usr/share/vomidegu-desk/page", str(OFFICE / "page")), ("/var/log/nginx/", "%s/" % self.folder)):
+                         ("/usr/share/vomidegu-desk/page", str(OFFICE / "page")), ("/var/log/nginx/", "%s/" % self.folder), *changes):
             expect("nginx's configuration has %s" % old, old in site)
             site = site.replace(old, new)
         (self.folder / "site.conf").write_text(site)
@@ -194,6 +228,21 @@ class Office:
         expect("the practice nginx stops", stopped.returncode == 0, stopped.stderr)
         until("it has ended", lambda: not (folder / "nginx.pid").exists())
         shutil.rmtree(folder)
+
+    def silent_links(self):
+        """Connections to nginx that send nothing, half a head and half a body."""
+        context, links = ssl._create_unverified_context(), []
+        for said in (b"", b"GET /board HTTP/1.1\r\nHost: d\r\n", b"POST /call HTTP/1.1\r\nHost: d\r\nContent-Length: 90\r\n\r\n{\"actor\":"):
+            links.append(context.wrap_socket(socket.create_connection(("127.0.0.1", self.port), PATIENCE), server_hostname="desk"))
+            links[-1].sendall(said)
+        return links
+
+    def nothing_secret(self):
+        """No log contains a key."""
+        keys = [line.split(",")[1] for line in (self.state / "actors.csv").read_text().splitlines()[1:]]
+        for log in self.folder.glob("*.log"):
+            held = log.read_text(errors="replace")
+            expect("%s contains no key" % log.name, not any(key in held for key in keys))
 
     def feed_words(self, *words):
         key = self.folder / "feed.key"

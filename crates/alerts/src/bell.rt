@@ -25,6 +25,18 @@ pub trait Bell {
         ensures on { GoesOn (seen self.old).health (seen self.new).health }
         ensures cause { OnErr result (HasFailed (seen self.old).health (seen self.new).health) };
 
+    /// Delivers a notice while this person sits at its desk, as `ring` does. A bell may show who it is.
+    fn ring_at(&mut self, notice: &Notice, _sitter: Option<&[u8]>) -> Result<(), Failed>
+        ensures desk { (seen self.new).desk ≡ (seen self.old).desk }
+        ensures ok { OnOk result ((seen self.new).heard
+            ≡ option_map (λ all. all ++ notice.now ∷ []) (seen self.old).heard) }
+        ensures err { OnErr result ((seen self.new).heard ≡ (seen self.old).heard) }
+        ensures on { GoesOn (seen self.old).health (seen self.new).health }
+        ensures cause { OnErr result (HasFailed (seen self.old).health (seen self.new).health) }
+    {
+        self.ring(notice)
+    }
+
     /// Returns how often the bell has failed. The count never decreases.
     fn faults(&self) -> u64
         ensures { result ≡ (seen self.now).health.faults };

@@ -44,7 +44,8 @@ fn ring_one<B: Bell, S: Seating>(seat: &mut Seat<B>, seating: &S, notice: &Notic
     if !concerns(seating, seat.bell.desk().bytes(), notice) {
         return;
     }
-    match seat.bell.ring(notice) {
+    let sitter = seating.sitter_of(notice.desk.bytes());
+    match seat.bell.ring_at(notice, sitter) {
         Ok(()) => seat.heard = seat.heard.saturating_add(1),
         Err(Failed) => seat.stays = false,
     }

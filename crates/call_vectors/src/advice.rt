@@ -24,13 +24,13 @@ use std::marker::Brand;
 use std::sync::ledger::{Blank, Ledger};
 use table_files::TableFault;
 
-/// What the advice of a case is judged by.
+/// What the plan of a case is judged by.
 #[derive(Drop)]
-struct Evidence {
-    tables: Tables,
-    reports: Reports,
-    deferrals: Deferrals,
-    moment: Minute,
+pub(crate) struct Evidence {
+    pub tables: Tables,
+    pub reports: Reports,
+    pub deferrals: Deferrals,
+    pub moment: Minute,
 }
 
 fn moment_at(case: &Value, key: &str) -> Option<Minute>
@@ -172,7 +172,8 @@ fn records_in(alloc: Global, case: &Value) -> Result<Option<(Reports, Deferrals)
     }
 }
 
-fn evidence_in(
+/// The tables, reports, deferrals and moment of a case, or None if one of them can't be read.
+pub(crate) fn evidence_in(
     alloc: Global,
     case: &Value,
     small: &Files,
@@ -194,7 +195,8 @@ fn evidence_in(
     }))
 }
 
-fn plan_in(alloc: Global, case: &Value) -> Result<Option<Plan>, OutOfMemory>
+/// The plan of a case.
+pub(crate) fn plan_in(alloc: Global, case: &Value) -> Result<Option<Plan>, OutOfMemory>
     ensures { IfOk result (λ plan. IfSome plan IsPlan) }
 {
     let Some(text) = text_at(case, "plan") else {
@@ -362,6 +364,7 @@ pub fn advises(alloc: Global, case: &Value, small: &Files) -> Result<bool, OutOf
     }
 }
 
-fn phase_in(case: &Value) -> Option<Phase> {
+/// The phase of a case.
+pub(crate) fn phase_in(case: &Value) -> Option<Phase> {
     read_phase(text_at(case, "phase")?.as_bytes())
 }

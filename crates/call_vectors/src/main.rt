@@ -12,6 +12,7 @@ mod advice;
 mod fields;
 mod operations;
 mod reports;
+mod sheets;
 mod tables;
 mod written;
 
@@ -33,6 +34,8 @@ fn passes(alloc: Global, case: &Value, small: &Files) -> Result<bool, OutOfMemor
         tables::faults(alloc, case, small)
     } else if has_key(case, "advice") {
         advice::advises(alloc, case, small)
+    } else if has_key(case, "sheet") {
+        sheets::writes(alloc, case, small)
     } else if has_key(case, "tables") {
         operations::minima(alloc, case, small)
     } else if has_key(case, "raised") {

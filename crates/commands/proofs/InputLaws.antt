@@ -8,10 +8,10 @@ use Rattle.desk_json.specs.Plans.{plan_in}
 use Rattle.ops_tables.specs.Tables.{TableRows}
 use Rattle.plan.specs.Check.{plan_fault}
 use Rattle.plan.specs.declared.flights.Plan.{Plan}
-use Rattle.words.specs.declared.task.DeskTask.TheVariants.{Advise}
+use Rattle.words.specs.declared.task.DeskTask.TheVariants.{Advise, Check}
 use Rattle.commands.specs.Answers.{IsRefusal}
 use Rattle.commands.specs.Faults.{OnInput}
-use Rattle.commands.specs.Inputs.{AreStated, IsBadCandidate, IsBadPlan, IsBadRecord, IsFirstBad, StatesPlan}
+use Rattle.commands.specs.Inputs.{AreStated, IsBadCandidate, IsBadPlan, IsBadRecord, IsFirstBad, IsNoPlan, StatesPlan}
 use Rattle.commands.specs.Sources.{first_of, second_of}
 use Rattle.commands.specs.declared.fault.BadInput.{BadInput as ABadInput}
 use Rattle.commands.specs.declared.fault.InputWhy.{InputWhy}
@@ -38,10 +38,10 @@ tested_states tables name text plan (Err stop) reads same valid fails bad =
     (λ b is. subst (IsBadPlan tables name text) (sym is) (record { name_is = refl; first = refl; fails = (plan, reads, fails) })) bad
 
 -- no plan was read
-pub not_plan : (tables : TableRows) (name text : List ℕ) (stop : Fault) → plan_in text ≡ None → OnInput (λ bad. bad ≡ at name 1 why.NotPlan) stop → OnInput (IsBadPlan tables name text) stop
-not_plan tables name text stop reads bad =
-    on_input (λ bad. bad ≡ at name 1 why.NotPlan) (IsBadPlan tables name text) stop
-    (λ b is. subst (IsBadPlan tables name text) (sym is) (record { name_is = refl; first = refl; fails = reads })) bad
+pub not_plan : (tables : TableRows) (name text : List ℕ) (stop : Fault) → OnInput (IsNoPlan name text) stop → OnInput (IsBadPlan tables name text) stop
+not_plan tables name text stop bad =
+    on_input (IsNoPlan name text) (IsBadPlan tables name text) stop
+    (λ b none. subst (IsBadPlan tables name text) (sym none.is) (record { name_is = refl; first = refl; fails = none.read })) bad
 
 -- a record of candidates is bad
 pub bad_record : (tables : TableRows) (plan : Plan) (name text : List ℕ) (line : ℕ) (reason : CandidateWhy) (stop : Fault) → AreCandidatesIn tables plan text (Err (record { line = line; why = reason }))
@@ -75,3 +75,16 @@ pub is_refusal : (tables : TableRows) (names texts : List (List ℕ)) (stop : Fa
 is_refusal tables names texts (BadInput bad) is = is
 is_refusal tables names texts OutOfMemory is = tt
 is_refusal tables names texts other is = absurd is
+
+-- ---- a file to check
+
+-- it isn't a plan
+pub unread : (name text : List ℕ) (stop : Fault) → plan_in text ≡ None → OnInput (λ bad. bad ≡ at name 1 why.NotPlan) stop → OnInput (IsNoPlan name text) stop
+unread name text stop reads bad = on_input (λ bad. bad ≡ at name 1 why.NotPlan) (IsNoPlan name text) stop (λ b is. record { read = reads; is = is }) bad
+
+-- no desk is opened for it
+pub unread_refusal : (tables : TableRows) (names texts : List (List ℕ)) (name text : List ℕ) (stop : Fault) → name ≡ first_of names → text ≡ first_of texts → OnInput (IsNoPlan name text) stop
+    → IsRefusal Check tables names texts (Err stop)
+unread_refusal tables names texts name text (BadInput bad) named read is = subst (λ x. IsNoPlan x (first_of texts) bad) named (subst (λ x. IsNoPlan name x bad) read is)
+unread_refusal tables names texts name text OutOfMemory named read is = tt
+unread_refusal tables names texts name text other named read is = absurd is

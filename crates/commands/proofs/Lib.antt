@@ -1,3 +1,4 @@
+pub mod Handed
 pub mod Reading
 pub mod Opened
 pub mod InputLaws

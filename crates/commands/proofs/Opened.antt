@@ -1,18 +1,16 @@
 -- The work on a desk that was opened, over the rows before it was.
-use Rattle.std.proofs.Common.{◌≡◌, ℕ, ◌≤◌, Bool, true, List, [], map, Option, None, Some, ap, ◌∙◌, refl, inr, subst, sym, arith}
+use Rattle.std.proofs.Common.{◌≡◌, ℕ, ◌≤◌, Bool, true, List, [], map, Option, None, Some, ap, append-nil, ◌∙◌, inr, refl, subst, sym, arith}
 use Rattle.std.specs.Prelude.{Ok, Err}
 use Rattle.std.specs.List.{concat}
 use Rattle.alerts.specs.Seen.{BellSeen}
-use Rattle.scripts.specs.Below.{Record, Shown, shown, KeepsState, numbers_of, AreAsked, IsLeft, IsOfKeeper, IsOpened, IsWhy, MayHaveAsked, TellsRowsOf, board_of, OpenWhy, AreGivenInPart, IsRun, Desk, DeskAt, DeskGoesOn, desk_at, desk_seen, IsBoard, State, Item}
-use Rattle.scripts.proofs.Below.{rise_lower, rise_within}
+use Rattle.scripts.specs.Below.{Shown, shown, numbers_of, AreAsked, IsEntered, IsLeft, IsOfKeeper, IsOpened, IsWhy, MayHaveAsked, NotEntered, OpensOver, TellsRowsOf, board_of, OpenWhy, AreGivenInPart, IsRun, Desk, DeskAt, DeskGoesOn, desk_at, desk_seen, IsBoard, State, Item}
+use Rattle.scripts.proofs.Below.{rise_lower, rise_within, entered_on}
 use Rattle.desk_io.specs.Health.{HasFailed}
 use Rattle.desk_io.specs.Over.{Over, over}
 use Rattle.desk_io.specs.Rows.{Rows}
-use Rattle.keeper.proofs.SeenLaws.{keeper_on}
+use Rattle.keeper.proofs.SeenLaws.{keeper_on, keeper_stays}
 use Rattle.keeper.specs.Seen.{KeeperSeen, KeeperGoesOn}
 use Rattle.ops_tables.specs.Tables.{TableRows}
-use Rattle.row_changes.specs.Held.{meta_in, state_by, state_in}
-use Rattle.row_changes.specs.Opening.{reopened}
 use Rattle.commands.specs.Faults.{Outcome, of_opening}
 use Rattle.commands.specs.Seen.{lent as lent_over, Lent}
 use Rattle.commands.specs.Working.{AsksAfter, AsksToOpen, Opens, Ends, desk_over, since}
@@ -57,25 +55,17 @@ pub not_opened : {K B : Type 0} (seen : K → KeeperSeen) (tables : TableRows) (
     → said.answer ≡ Err (of_opening why) → said.board ≡ None → said.keeper ≡ kept → IsWhy (seen lent).rows (HasFailed (seen lent).health (seen kept).health) why
     → ((s : State) → IsLeft s → TellsRowsOf (seen lent).rows s → IsOfKeeper (HasFailed (seen lent).health (seen kept).health) why)
     → (seen kept).rows ≡ (seen lent).rows → MayHaveAsked (seen lent).rows tables (seen lent).commits (seen kept).commits
+    → NotEntered (seen lent).account (seen kept).account tables why
     → Opens tables Works (lent_over seen lent said.keeper) said.board said.answer
-not_opened seen tables Works lent kept why said answer_is board_is keeper_is is left rows asked =
+not_opened seen tables Works lent kept why said answer_is board_is keeper_is is left rows asked unentered =
     subst (λ k. Opens tables Works (lent_over seen lent k) said.board said.answer) (sym keeper_is)
     (subst (λ b. Opens tables Works (lent_over seen lent kept) b said.answer) (sym board_is)
-    (record { why = why; says = answer_is; is = is; left = left; rows = rows; asked = asked }))
+    (record { why = why; says = answer_is; is = is; left = left; rows = rows; asked = asked; unentered = unentered }))
 
 -- a desk that was opened has no history yet
 pub opened_fresh : (told : Option Rows) (tables : TableRows) (b : Shown) → IsOpened told tables b → IsBoard b.opening b.state → b.state.entries ≡ []
 opened_fresh told tables b opened holds =
     ap (λ (x : Shown). x.state.entries) opened.shows ∙ sym (ap (λ (x : Shown). x.opening.entries) opened.shows) ∙ holds.history.empty
-
-state_tables : (tables : TableRows) (records : List Record) (o : _) → (state_by tables o records).tables ≡ tables
-state_tables tables records None = refl
-state_tables tables records (Some m) = refl
-
--- it is opened under the tables
-pub opened_tables : (told : Option Rows) (tables : TableRows) (b : Shown) → IsOpened told tables b → b.state.tables ≡ tables
-unfolding reopened state_in
-opened_tables told tables b opened = ap (λ (x : Shown). x.state.tables) opened.shows ∙ state_tables tables opened.records (meta_in opened.records)
 
 -- it is one that was opened, when its board holds its entries too
 pub held_opened : (told : Option Rows) (tables : TableRows) (b c : Shown) → IsOpened told tables b → c ≡ shown b.opening b.state None true → IsOpened told tables c
@@ -90,7 +80,7 @@ held_opened told tables b c opened is = record {
 }
 
 module _ {K B : Type 0} (seen : K → KeeperSeen) (heard : B → BellSeen) (tables : TableRows) (Works : Over DeskAt → Outcome → Type 0) (lent : K) where
-  opened_over : (desk done : Desk K B) (answer : Outcome) → IsOpened (seen lent).rows tables desk.board → KeeperGoesOn (seen lent) (seen desk.keeper) → KeepsState (seen desk.keeper).rows desk.board.state
+  opened_over : (desk done : Desk K B) (answer : Outcome) → IsOpened (seen lent).rows tables desk.board → KeeperGoesOn (seen lent) (seen desk.keeper) → OpensOver (seen lent) (seen desk.keeper) tables desk.board
       → DeskGoesOn (desk_seen seen heard desk) (desk_seen seen heard done) → ((less : ℕ) → less ≤ (seen desk.keeper).health.faults → Works (since less (over (desk_at seen) desk done)) answer) → IsBoard done.board.opening done.board.state
       → Opens tables Works (lent_over seen lent done.keeper) (Some done.board) answer
   opened_over desk done answer opened lasts kept goes works holds =
@@ -102,7 +92,10 @@ module _ {K B : Type 0} (seen : K → KeeperSeen) (heard : B → BellSeen) (tabl
           loaded = opened.loaded;
           opening = goes.opening ∙ ap (λ (b : Shown). b.opening) opened.shows;
           holds = holds;
-          kept = goes.rows kept;
+          entered =
+              subst (λ (o : State). IsEntered (seen lent).account (seen done.keeper).account tables o done.board.state) (sym goes.opening)
+              (entered_on (seen lent).account (seen desk.keeper).account (seen done.keeper).account tables desk.board.opening desk.board.state done.board.state kept.entered goes.saves);
+          kept = goes.rows kept.kept;
         },
         subst (λ (s : State). Works (record { before = record { state = s; faults = less }; after = desk_at seen done }) answer) first
             (works less lasts.health.later),
@@ -110,7 +103,7 @@ module _ {K B : Type 0} (seen : K → KeeperSeen) (heard : B → BellSeen) (tabl
 
   -- what is given back is the desk on which the work was done
   pub worked : (desk done : Desk K B) (answer : Outcome) (said : Ended K B) → said.answer ≡ answer → said.board ≡ Some done.board → said.keeper ≡ done.keeper
-      → IsOpened (seen lent).rows tables desk.board → KeeperGoesOn (seen lent) (seen desk.keeper) → KeepsState (seen desk.keeper).rows desk.board.state
+      → IsOpened (seen lent).rows tables desk.board → KeeperGoesOn (seen lent) (seen desk.keeper) → OpensOver (seen lent) (seen desk.keeper) tables desk.board
       → DeskGoesOn (desk_seen seen heard desk) (desk_seen seen heard done) → ((less : ℕ) → less ≤ (seen desk.keeper).health.faults → Works (since less (over (desk_at seen) desk done)) answer) → IsBoard done.board.opening done.board.state
       → Opens tables Works (lent_over seen lent said.keeper) said.board said.answer
   worked desk done answer said answer_is board_is keeper_is opened lasts kept goes works holds =
@@ -118,6 +111,17 @@ module _ {K B : Type 0} (seen : K → KeeperSeen) (heard : B → BellSeen) (tabl
       (subst (λ b. Opens tables Works (lent_over seen lent done.keeper) b said.answer) (sym board_is)
       (subst (λ a. Opens tables Works (lent_over seen lent done.keeper) (Some done.board) a) (sym answer_is)
       (opened_over desk done answer opened lasts kept goes works holds)))
+
+-- a desk on which nothing was done
+pub still : {K B : Type 0} (seen : K → KeeperSeen) (heard : B → BellSeen) (desk : Desk K B) → DeskGoesOn (desk_seen seen heard desk) (desk_seen seen heard desk)
+still seen heard desk = record {
+  opening = refl;
+  rows = λ kept. kept;
+  keeper = keeper_stays (seen desk.keeper);
+  saves = record { asked = []; account = sym (append-nil (seen desk.keeper).account); saves = refl };
+  listed = λ held. held;
+  rung = λ bells since. since;
+}
 
 -- what goes on by a work's own view of the keeper and the bells
 pub goes_by : {K B : Type 0} (seen own : K → KeeperSeen) (heard told : B → BellSeen) (desk done : Desk K B) → own ≡ seen → told ≡ heard → DeskGoesOn (desk_seen own told desk) (desk_seen own told done)

@@ -5,20 +5,21 @@ use Rattle.alerts.proofs.RungLaws.{are_rung_none}
 use Rattle.alerts.specs.Ringing.{AreRung, Hung, dropped, fresh_from, hung_all, staying}
 use Rattle.alerts.specs.Seen.{BellSeen}
 use Rattle.scripts.specs.Below.{Shown, told_by_all, IsOpened, DeskGoesOn, desk_at, desk_seen, Desk, IsBoard, State}
+use Rattle.commands.proofs.Reading.{between, whole_as}
 use Rattle.commands.specs.Bells.{AreRungAfter, AreRungBy, AreRungIn, AreRungOver, AreRungSeated, AreRungUnder, IsRungInShifts}
 use Rattle.commands.specs.Faults.{Outcome}
 use Rattle.commands.specs.Seen.{lent as lent_over, Lent}
-use Rattle.commands.specs.Sources.{AreWhole}
+use Rattle.commands.specs.Sources.{ReadsSources}
 use Rattle.commands.specs.Working.{RunsSeated}
 use Rattle.commands.specs.declared.working.Ended.{Ended}
-use Rattle.desk_io.specs.Over.{over}
+use Rattle.desk_io.specs.Over.{Over, over}
 use Rattle.desk_io.specs.Rows.{Rows}
+use Rattle.desk_io.specs.Seen.{ShelfSeen}
 use Rattle.keeper.specs.Seen.{KeeperGoesOn, KeeperSeen}
 use Rattle.ops_tables.specs.Tables.{TableRows}
 use Rattle.scripts.proofs.RunLaws.{seated_run_lower}
 use Rattle.scripts.specs.ShiftLines.{HaveHeardSome}
 use Rattle.scripts.specs.ShiftRuns.{IsSeatedRun}
-use Rattle.table_files.specs.Whole.{Told}
 use Rattle.words.specs.declared.task.DeskTask.{DeskTask}
 use Rattle.words.specs.declared.task.DeskTask.TheVariants.{Shifts}
 use Rattle.words.specs.declared.task.Task.{Task}
@@ -81,33 +82,37 @@ rung_seated {K} seen heard told tables lent desk done said script texts_first an
 -- ---- the bells of a command
 
 -- without a board no bell is rung
-pub none_rung : (sources : Told) (task : DeskTask) (names : List (List ℕ)) (keeper : Lent) (answer : Outcome) (board : Option Shown) (old new : List Hung) → board ≡ None → new ≡ old → AreRungUnder sources task names keeper answer board old new
-none_rung sources task names keeper answer board old new none same =
-    subst (λ (b : Option Shown). AreRungUnder sources task names keeper answer b old new) (sym none) same
+pub none_rung : (shelf : Over ShelfSeen) (task : DeskTask) (names : List (List ℕ)) (keeper : Lent) (answer : Outcome) (board : Option Shown) (old new : List Hung) → board ≡ None → new ≡ old → AreRungUnder shelf task names keeper answer board old new
+none_rung shelf task names keeper answer board old new none same =
+    subst (λ (b : Option Shown). AreRungUnder shelf task names keeper answer b old new) (sym none) same
 
 -- over sources that were read
-pub rung_under : (sources : Told) (task : DeskTask) (names texts : List (List ℕ)) (keeper : Lent) (answer : Outcome) (board : Option Shown) (old new : List Hung) → AreWhole sources names texts → AreRungBy task texts keeper answer board old new
-    → AreRungUnder sources task names keeper answer board old new
-rung_under sources Shifts names texts keeper answer None old new whole rung = rung
-rung_under sources Shifts names texts keeper answer (Some b) old new whole rung = (rung.0, (texts, whole, rung.1))
-rung_under sources other names texts keeper answer None old new whole rung = rung
-rung_under sources other names texts keeper answer (Some b) old new whole rung = rung
+pub rung_under : (begun done : ShelfSeen) (task : DeskTask) (names texts : List (List ℕ)) (keeper : Lent) (answer : Outcome) (board : Option Shown) (old new : List Hung) → ReadsSources (between begun done) names (Ok texts)
+    → AreRungBy task texts keeper answer board old new → AreRungUnder (between begun done) task names keeper answer board old new
+rung_under begun done Shifts names texts keeper answer None old new read rung = rung
+rung_under begun done Shifts names texts keeper answer (Some b) old new read rung = (rung.0, (begun.reads, texts, read, rung.1))
+rung_under begun done other names texts keeper answer None old new read rung = rung
+rung_under begun done other names texts keeper answer (Some b) old new read rung = rung
 
--- over the same sources
-pub rung_from : (sources told : Told) (task : DeskTask) (names : List (List ℕ)) (keeper : Lent) (answer : Outcome) (board : Option Shown) (old new : List Hung) → told ≡ sources → AreRungUnder told task names keeper answer board old new
-    → AreRungUnder sources task names keeper answer board old new
-rung_from sources told task names keeper answer board old new same rung = subst (λ (x : Told). AreRungUnder x task names keeper answer board old new) same rung
+-- over the same sources, with more reads before
+pub rung_from : (begun middle done : ShelfSeen) (task : DeskTask) (names : List (List ℕ)) (keeper : Lent) (answer : Outcome) (board : Option Shown) (old new : List Hung) → middle.sources ≡ begun.sources
+    → AreRungUnder (between middle done) task names keeper answer board old new → AreRungUnder (between begun done) task names keeper answer board old new
+rung_from begun middle done Shifts names keeper answer None old new same rung = rung
+rung_from begun middle done Shifts names keeper answer (Some b) old new same rung =
+    let last = rung.1 in (rung.0, (last.0, last.1, (whole_as begun.sources middle.sources names last.1 same last.2.0, last.2.1), last.3))
+rung_from begun middle done other names keeper answer None old new same rung = rung
+rung_from begun middle done other names keeper answer (Some b) old new same rung = rung
 
 -- where no command was run
-nothing_in : (sources : Told) (task : Task) (names : List (List ℕ)) (keeper : Lent) (answer : Outcome) (bells : List Hung) → AreRungIn sources task names keeper answer None bells bells
-nothing_in sources Weather names keeper answer bells = refl
-nothing_in sources (OnDesk task) names keeper answer bells = refl
+nothing_in : (shelf : Over ShelfSeen) (task : Task) (names : List (List ℕ)) (keeper : Lent) (answer : Outcome) (bells : List Hung) → AreRungIn shelf task names keeper answer None bells bells
+nothing_in shelf Weather names keeper answer bells = refl
+nothing_in shelf (OnDesk task) names keeper answer bells = refl
 
-pub nothing_rung : (sources : Told) (command : Option (Task × List (List ℕ))) (keeper : Lent) (answer : Outcome) (bells : List Hung) → AreRungAfter sources command keeper answer None bells bells
-nothing_rung sources None keeper answer bells = refl
-nothing_rung sources (Some command) keeper answer bells = nothing_in sources command.0 command.1 keeper answer bells
+pub nothing_rung : (shelf : Over ShelfSeen) (command : Option (Task × List (List ℕ))) (keeper : Lent) (answer : Outcome) (bells : List Hung) → AreRungAfter shelf command keeper answer None bells bells
+nothing_rung shelf None keeper answer bells = refl
+nothing_rung shelf (Some command) keeper answer bells = nothing_in shelf command.0 command.1 keeper answer bells
 
-pub unrung : (sources : Told) (command : Option (Task × List (List ℕ))) (keeper : Lent) (answer : Outcome) (board : Option Shown) (old new : List Hung) → board ≡ None → new ≡ old → AreRungAfter sources command keeper answer board old new
-unrung sources command keeper answer board old new none same =
-    subst (λ (b : Option Shown). AreRungAfter sources command keeper answer b old new) (sym none)
-    (subst (λ now. AreRungAfter sources command keeper answer None old now) (sym same) (nothing_rung sources command keeper answer old))
+pub unrung : (shelf : Over ShelfSeen) (command : Option (Task × List (List ℕ))) (keeper : Lent) (answer : Outcome) (board : Option Shown) (old new : List Hung) → board ≡ None → new ≡ old → AreRungAfter shelf command keeper answer board old new
+unrung shelf command keeper answer board old new none same =
+    subst (λ (b : Option Shown). AreRungAfter shelf command keeper answer b old new) (sym none)
+    (subst (λ now. AreRungAfter shelf command keeper answer None old now) (sym same) (nothing_rung shelf command keeper answer old))

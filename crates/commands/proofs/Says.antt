@@ -9,6 +9,7 @@ use Rattle.desk_io.specs.Told.{HoldsName}
 use Rattle.desk_io.specs.Health.{HasFailed, IsSound, RoseOrFull}
 use Rattle.desk_io.specs.Over.{Over}
 use Rattle.desk_io.specs.Seen.{ShelfSeen, SinkSeen}
+use Rattle.desk_io.specs.declared.source_read.SourceRead.{SourceRead}
 use Rattle.desk_net.specs.Seen.{ClockSeen, DoorSeen, LinkSeen, ClockGoesOn}
 use Rattle.desk_net.proofs.SeenLaws.{clock_stays}
 use Rattle.keeper.proofs.SeenLaws.{keeper_stays}
@@ -17,12 +18,13 @@ use Rattle.scripts.specs.Below.RowsFaultVariants as fault
 use Rattle.connections.specs.Doors.{EndsServing, Visit}
 use Rattle.connections.specs.declared.doors.ServeEnd.{ServeEnd}
 use Rattle.connections.specs.declared.doors.ServeEnd.TheVariants as ends
+use Rattle.service.proofs.StayingLaws.{door_rose, never_by_clock, never_done, never_lacking}
 use Rattle.ops_tables.specs.Tables.{TableRows}
 use Rattle.table_files.specs.Files.{files, name_of}
 use Rattle.table_files.specs.Whole.{ReadsTables, RoseAt, StopsAtMissing, Told}
 use Rattle.table_files.specs.declared.faults.TableFault.{TableFault}
 use Rattle.table_files.specs.declared.faults.TableFault.TheVariants as table
-use Rattle.words.specs.declared.task.DeskTask.TheVariants.{Run, Race, Serve, Import, Make, Advise, Planned, Shifts}
+use Rattle.words.specs.declared.task.DeskTask.TheVariants.{Run, Race, Serve, Stay, Import, Make, Advise, Planned, Shifts, Why, Check}
 use Rattle.words.specs.declared.task.Task.{Task}
 use Rattle.words.specs.declared.task.Task.TheVariants.{Weather, Desk}
 use Rattle.commands.proofs.Reading.{after_files, among_here, none_long, none_missing}
@@ -30,7 +32,7 @@ use Rattle.commands.specs.Answers.{AreKeptOver, HasDoor, IsDone, IsUntouched, Sa
 use Rattle.commands.specs.Complete.{AreFaultless, AreGood, AllPass, AreShort, IsTooLong}
 use Rattle.commands.specs.Faults.{Gives, Outcome, of_opening, of_tables, status_of_fault}
 use Rattle.commands.specs.Seen.{Lent, Service, lent as lent_over, service}
-use Rattle.commands.specs.Sources.{ReadsFiles, ReadsSources, SourceFails, SourcesFail, TablesFail, first_of, sources_of, AreWhole}
+use Rattle.commands.specs.Sources.{FailsAt, ReadsFiles, ReadsSources, SourceFails, TablesFail, first_of, from_reads, sources_of, AreWhole}
 use Rattle.commands.specs.Weather.{weather_text}
 use Rattle.commands.specs.Working.{EndSays, Opens, desk_over, AsksNothing, Does, Ends, serves}
 use Rattle.commands.specs.declared.fault.Fault.{Fault}
@@ -80,25 +82,24 @@ abbrev HasLong : Told → List (List ℕ) → Type 0
 HasLong sources names = AreShort sources names → ⊥
 
 module _ (of : Charges) (shelf : Over ShelfSeen) (names : List (List ℕ)) (misses : Misses shelf names → of.shelf) (long : HasLong shelf.before.sources names → of.long) where
-  source_tells : (name : List ℕ) → ((P : List ℕ → Type 0) → All P names → P name) → (fault : Fault) → SourceFails shelf name fault → Tells of fault
-  source_tells name among (ReadFault file) says = misses (says.1.0, λ has. says.1.1 has.0 (among (HoldsName shelf.before.sources) has.1))
-  source_tells name among (InputTooLong file) says = long (λ short. among (λ name. IsTooLong shelf.before.sources name → ⊥) short says.1)
-  source_tells name among OutOfMemory says = tt
-  source_tells name among other says = absurd says
+  source_tells : (upto : List SourceRead) (name : List ℕ) → ((P : List ℕ → Type 0) → All P names → P name) → (fault : Fault) → SourceFails (from_reads shelf upto) name fault → Tells of fault
+  source_tells upto name among (ReadFault file) says = misses (says.1.0, λ has. says.1.1 has.0 (among (HoldsName shelf.before.sources) has.1))
+  source_tells upto name among (InputTooLong file) says = long (λ short. among (λ name. IsTooLong shelf.before.sources name → ⊥) short says.1)
+  source_tells upto name among OutOfMemory says = tt
+  source_tells upto name among other says = absurd says
 
   -- the first of several sources that wasn't read
-  sources_tell : (last : List (List ℕ)) → ((P : List ℕ → Type 0) → All P names → All P last) → (fault : Fault) → SourcesFail shelf last fault → Tells of fault
-  sources_tell last within OutOfMemory fails = tt
-  sources_tell last within other fails = source_tells fails.name (λ P all. among_here P fails.earlier fails.name fails.later (subst (All P) fails.order (within P all))) other fails.fails
+  sources_tell : (last : List (List ℕ)) → ((P : List ℕ → Type 0) → All P names → All P last) → (fault : Fault) → FailsAt shelf last fault → Tells of fault
+  sources_tell last within fault fails = source_tells fails.upto fails.name (λ P all. among_here P fails.earlier fails.name fails.later (subst (All P) fails.order (within P all))) fault fails.fails
 
   module _ (rest : List (List ℕ)) (are : names ≡ map name_of files ++ rest) (bad : (AreGood shelf.before.sources → ⊥) → of.tables) where
-    tables_tell : (stop : TableFault) → ReadsTables shelf.before.sources (Err stop) → RoseAt shelf.before.health shelf.after.health stop → (IsSound shelf.before.health → StopsAtMissing shelf.before.sources stop)
-        → Tells of (of_tables stop)
-    tables_tell (table.Bad found) reads rose stops = bad (λ good. good found reads)
+    tables_tell : (stop : TableFault) → ReadsTables shelf.before.sources shelf.before.reads shelf.after.reads (Err stop) → RoseAt shelf.before.health shelf.after.health stop
+        → (IsSound shelf.before.health → StopsAtMissing shelf.before.sources shelf.before.reads shelf.after.reads stop) → Tells of (of_tables stop)
+    tables_tell (table.Bad found) reads rose stops = bad (λ good. good found shelf.before.reads shelf.after.reads reads)
     tables_tell (table.ReadFault name) reads rose stops =
-        misses (rose, λ has. none_missing shelf.before.sources name rest (subst (All (HoldsName shelf.before.sources)) are has.1) (stops has.0))
+        misses (rose, λ has. none_missing shelf.before.sources shelf.before.reads shelf.after.reads name rest (subst (All (HoldsName shelf.before.sources)) are has.1) (stops has.0))
     tables_tell (table.TooLong name) reads rose stops =
-        long (λ short. none_long shelf.before.sources name rest (subst (All (λ name. IsTooLong shelf.before.sources name → ⊥)) are short) reads)
+        long (λ short. none_long shelf.before.sources shelf.before.reads shelf.after.reads name rest (subst (All (λ name. IsTooLong shelf.before.sources name → ⊥)) are short) reads)
     tables_tell table.OutOfMemory reads rose stops = tt
 
     files_tell : (fault : Fault) → TablesFail shelf fault → Tells of fault
@@ -242,46 +243,59 @@ module _ {K C D L : Type 0} (k : K → KeeperSeen) (c : C → ClockSeen) (d : D 
         (λ is. (does.served.by_clock is).0)
         (λ is. (door_failed _ most does.served.served.visits does.end does.served.served.ends is, λ has. does.steady_door has.0 has.1 is));
   }
+  does_served (Stay port) names tables texts desk answer idle does = record {
+    clock = does.clock;
+    door = does.door;
+    still = end_still does.end desk.after.state answer does.says (λ is. absurd (never_done serving.door_type serving.link serving.door serving.clock desk port 33 does.end does.stays is));
+    tells = end_tells (charges (Some (Desk (Stay port), names))) does.end desk.after.state answer does.says
+        (λ is. absurd (never_by_clock serving.door_type serving.link serving.door serving.clock desk port 33 does.end does.stays is))
+        (λ is. (
+          door_rose serving.door_type serving.link serving.door serving.clock desk port 33 does.end does.stays is,
+          λ has. never_lacking serving.door_type serving.link serving.door serving.clock desk port 33 does.end does.stays is has.0 has.1,
+        ));
+  }
   does_served Import names tables texts desk answer idle does = idle_served (Some (Desk Import, names)) answer (idle refl) (ends_tell (charges (Some (Desk Import, names))) _ _ answer does.2)
   does_served (Make number count) names tables texts desk answer idle does = idle_served (Some (Desk (Make number count), names)) answer (idle refl) (ends_tell (charges (Some (Desk (Make number count), names))) _ _ answer does)
   does_served Advise names tables texts desk answer idle does = idle_served (Some (Desk Advise, names)) answer (idle refl) (gives_tells (charges (Some (Desk Advise, names))) _ answer does.3.0)
   does_served Planned names tables texts desk answer idle does = idle_served (Some (Desk Planned, names)) answer (idle refl) (ends_tell (charges (Some (Desk Planned, names))) _ _ answer does)
   does_served Shifts names tables texts desk answer idle does = idle_served (Some (Desk Shifts, names)) answer (idle refl) (ends_tell (charges (Some (Desk Shifts, names))) _ _ answer does)
+  does_served (Why release) names tables texts desk answer idle does = idle_served (Some (Desk (Why release), names)) answer (idle refl) (gives_tells (charges (Some (Desk (Why release), names))) _ answer does.0)
+  does_served Check names tables texts desk answer idle does = idle_served (Some (Desk Check, names)) answer (idle refl) (gives_tells (charges (Some (Desk Check, names))) _ answer does.2.0)
 
   -- no desk was opened for a fault in the sources
-  refusal_tells : (task : DeskTask) (names : List (List ℕ)) (tables : TableRows) (texts : List (List ℕ)) (answer : Outcome) → ReadsTables shelf.before.sources (Ok tables) → AreWhole shelf.before.sources names texts
-      → IsRefusal task tables names texts answer → TellsBy (charges (Some (Desk task, names))) answer
-  refusal_tells task names tables texts (Err (BadTable bad)) under whole is = λ good. good.1 tables texts (BadTable bad) under whole is
-  refusal_tells task names tables texts (Err (BadInput bad)) under whole is = λ good. good tables texts (BadInput bad) under whole is
-  refusal_tells task names tables texts (Err OutOfMemory) under whole is = tt
-  refusal_tells task names tables texts (Err other) under whole is = absurd is
-  refusal_tells task names tables texts (Ok text) under whole is = absurd is
+  refusal_tells : (task : DeskTask) (names : List (List ℕ)) (tables : TableRows) (texts : List (List ℕ)) (answer : Outcome) (upto : List SourceRead) → ReadsTables shelf.before.sources shelf.before.reads upto (Ok tables)
+      → AreWhole shelf.before.sources names texts → IsRefusal task tables names texts answer → TellsBy (charges (Some (Desk task, names))) answer
+  refusal_tells task names tables texts (Err (BadTable bad)) upto under whole is = λ good. good.1 tables texts (BadTable bad) shelf.before.reads upto under whole is
+  refusal_tells task names tables texts (Err (BadInput bad)) upto under whole is = λ good. good tables texts (BadInput bad) shelf.before.reads upto under whole is
+  refusal_tells task names tables texts (Err OutOfMemory) upto under whole is = tt
+  refusal_tells task names tables texts (Err other) upto under whole is = absurd is
+  refusal_tells task names tables texts (Ok text) upto under whole is = absurd is
 
-  work_follows : (task : DeskTask) (names : List (List ℕ)) (tables : TableRows) (texts : List (List ℕ)) (board : Option Shown) (answer : Outcome) → ReadsTables shelf.before.sources (Ok tables)
+  work_follows : (task : DeskTask) (names : List (List ℕ)) (tables : TableRows) (texts : List (List ℕ)) (board : Option Shown) (answer : Outcome) (upto : List SourceRead) → ReadsTables shelf.before.sources shelf.before.reads upto (Ok tables)
       → AreWhole shelf.before.sources names texts → WorksUnder tables (Does task tables texts serving) rows_over task names texts board answer → AsksNothing task board serving.idle → Follows (Some (Desk task, names)) board answer
-  work_follows task names tables texts board answer under whole (inl works) asks =
+  work_follows task names tables texts board answer upto under whole (inl works) asks =
       opens_follow (Some (Desk task, names)) tables (Does task tables texts serving) board answer works.1 works.3 asks.1 (λ desk does. does_served task names tables texts desk answer asks.0 does)
-  work_follows task names tables texts board answer under whole (inr refused) asks =
-      untouched_follows (Some (Desk task, names)) board answer refused.1 (asks.1 refused.1.none) (refusal_tells task names tables texts answer under whole refused.0)
+  work_follows task names tables texts board answer upto under whole (inr refused) asks =
+      untouched_follows (Some (Desk task, names)) board answer refused.1 (asks.1 refused.1.none) (refusal_tells task names tables texts answer upto under whole refused.0)
 
-  under_follows : (task : DeskTask) (names : List (List ℕ)) (tables : TableRows) (board : Option Shown) (answer : Outcome) (read : Result (List (List ℕ)) Fault) → ReadsTables shelf.before.sources (Ok tables)
-      → ReadsSources shelf names read → MatchResult read (λ texts. WorksUnder tables (Does task tables texts serving) rows_over task names texts board answer) (IsFault board answer) → AsksNothing task board serving.idle
+  under_follows : (task : DeskTask) (names : List (List ℕ)) (tables : TableRows) (board : Option Shown) (answer : Outcome) (upto : List SourceRead) (read : Result (List (List ℕ)) Fault) → ReadsTables shelf.before.sources shelf.before.reads upto (Ok tables)
+      → ReadsSources (from_reads shelf upto) names read → MatchResult read (λ texts. WorksUnder tables (Does task tables texts serving) rows_over task names texts board answer) (IsFault board answer) → AsksNothing task board serving.idle
       → Follows (Some (Desk task, names)) board answer
-  under_follows task names tables board answer (Ok texts) under reads does asks = work_follows task names tables texts board answer under reads does asks
-  under_follows task names tables board answer (Err fault) under reads does asks =
+  under_follows task names tables board answer upto (Ok texts) under reads does asks = work_follows task names tables texts board answer upto under reads.0 does asks
+  under_follows task names tables board answer upto (Err fault) under reads does asks =
       told_follows (Some (Desk task, names)) board answer fault does (asks.1 does.1.none)
-      (sources_tell (charges (Some (Desk task, names))) shelf (map name_of files ++ names) (λ misses. misses) (λ long. long) names (λ P all. after_files P name_of files names all) fault reads)
+      (sources_tell (charges (Some (Desk task, names))) (from_reads shelf upto) (map name_of files ++ names) (λ misses. misses) (λ long. long) names (λ P all. after_files P name_of files names all) fault reads)
 
-  desk_follows : (task : DeskTask) (names : List (List ℕ)) (board : Option Shown) (answer : Outcome) (read : Result TableRows Fault) → ReadsFiles shelf read
-      → MatchResult read (λ tables. ReadsUnder tables shelf serving rows_over task names board answer) (IsFault board answer) → AsksNothing task board serving.idle → Follows (Some (Desk task, names)) board answer
-  desk_follows task names board answer (Ok tables) reads does asks = under_follows task names tables board answer does.0 reads does.1 does.2 asks
-  desk_follows task names board answer (Err fault) reads does asks =
+  desk_follows : (task : DeskTask) (names : List (List ℕ)) (board : Option Shown) (answer : Outcome) (upto : List SourceRead) (read : Result TableRows Fault) → ReadsFiles shelf upto read
+      → MatchResult read (λ tables. ReadsUnder tables (from_reads shelf upto) serving rows_over task names board answer) (IsFault board answer) → AsksNothing task board serving.idle → Follows (Some (Desk task, names)) board answer
+  desk_follows task names board answer upto (Ok tables) reads does asks = under_follows task names tables board answer upto does.0 reads does.1 does.2 asks
+  desk_follows task names board answer upto (Err fault) reads does asks =
       told_follows (Some (Desk task, names)) board answer fault does (asks.1 does.1.none)
       (files_tell (charges (Some (Desk task, names))) shelf (map name_of files ++ names) (λ misses. misses) (λ long. long) names refl (λ bad good. bad good.0) fault reads)
 
   done_follows : (task : Task) (names : List (List ℕ)) (board : Option Shown) (answer : Outcome) → IsDone shelf serving rows_over task names board answer → Follows (Some (task, names)) board answer
   done_follows Weather names board answer does = reports_follow names board answer does.0.0 does.0.1 does.0.2 does.1
-  done_follows (Desk task) names board answer does = desk_follows task names board answer does.0.0 does.0.1 does.0.2 does.1
+  done_follows (Desk task) names board answer does = let read = does.0.1 in desk_follows task names board answer does.0.0 read.0 read.1 read.2 does.1
 
   pub follows : (command : Option (Task × List (List ℕ))) (board : Option Shown) (answer : Outcome) → Says shelf serving rows_over command board answer → Follows command board answer
   follows command board answer (inr says) = untouched_follows command board answer says.1 says.2 (subst (TellsBy (charges command)) (sym says.0) tt)

@@ -6,6 +6,7 @@ use Rattle.desk_io.specs.Over.{Over}
 use Rattle.desk_io.specs.Rows.{Rows}
 use Rattle.desk_io.specs.Seen.{ShelfSeen, SinkSeen}
 use Rattle.desk_io.specs.Told.{OnSource}
+use Rattle.desk_io.specs.declared.source_read.SourceRead.{SourceRead}
 use Rattle.scripts.specs.Below.RowsFaultVariants as fault
 use Rattle.ops_tables.specs.Tables.{TableRows}
 use Rattle.table_files.specs.Whole.{ReadsTables, Told}
@@ -18,9 +19,9 @@ use Rattle.commands.specs.Sources.{AreWhole, sources_of}
 use Rattle.commands.specs.Working.{HasFault}
 use Rattle.commands.specs.declared.fault.Fault.{Fault}
 
--- no table has a bad record
+-- no table has a bad record, whatever reads return it
 abbrev pub AreGood : Told → Type 0
-AreGood sources = (bad : BadTable) → ReadsTables sources (Err (table.Bad bad)) → ⊥
+AreGood sources = (bad : BadTable) (old new : List SourceRead) → ReadsTables sources old new (Err (table.Bad bad)) → ⊥
 
 -- the source has more than 64 MiB
 abbrev pub IsTooLong : Told → List ℕ → Type 0
@@ -30,12 +31,12 @@ IsTooLong sources name = OnSource sources name (λ bytes. 67_108_864 < length by
 abbrev pub AreShort : Told → List (List ℕ) → Type 0
 AreShort sources names = All (λ name. IsTooLong sources name → ⊥) names
 
--- The sources of a command have no fault under the tables: a file to import has its header, and a plan and its
--- candidates pass their tests.
+-- The sources of a command have no fault under the tables: a file to import has its header, a plan and its candidates
+-- pass their tests, and a file to check is a plan.
 abbrev pub ArePassing : Told → Task → List (List ℕ) → Type 0
 ArePassing sources Weather names = Unit {0}
 ArePassing sources (Desk task) names =
-    (tables : TableRows) (texts : List (List ℕ)) (stop : Fault) → ReadsTables sources (Ok tables) → AreWhole sources names texts → HasFault task tables names texts stop → ⊥
+    (tables : TableRows) (texts : List (List ℕ)) (stop : Fault) (old new : List SourceRead) → ReadsTables sources old new (Ok tables) → AreWhole sources names texts → HasFault task tables names texts stop → ⊥
 
 abbrev pub AllPass : Told → Option (Task × List (List ℕ)) → Type 0
 AllPass sources None = Unit {0}

@@ -1,4 +1,5 @@
--- The inputs of the adviser: a plan and the candidates for its alternates, or the first of them that is bad.
+-- The inputs of the adviser: a plan and the candidates for its alternates, or the first of them that is bad. The plan of
+-- `check`.
 use Rattle.std.specs.Prelude.{◌≡◌, ◌≢◌, ◌⊎◌, ℕ, List, None, Some, Ok, Err}
 use Rattle.advise.specs.declared.candidates.Candidate.{Candidate}
 use Rattle.candidate_files.specs.Candidates.{AreCandidatesIn}
@@ -52,3 +53,8 @@ pub record IsBadCandidate (tables : TableRows) (names texts : List (List ℕ)) (
 -- this is the first bad record of the two files
 abbrev pub IsFirstBad : TableRows → (names texts : List (List ℕ)) → ABadInput → Type 0
 IsFirstBad tables names texts bad = IsBadPlan tables (first_of names) (first_of texts) bad ⊎ IsBadCandidate tables names texts bad
+
+-- the file of this name isn't the JSON of a plan, which counts as record 1
+pub record IsNoPlan (name text : List ℕ) (bad : ABadInput) : Type 0 where
+  pub read : plan_in text ≡ None
+  pub is : bad ≡ record { name = name; line = 1; why = NotPlan }

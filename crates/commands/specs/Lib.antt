@@ -3,7 +3,9 @@ pub mod Faults
 pub mod Weather
 pub mod Sources
 pub mod Inputs
+pub mod Explained
 pub mod Working
 pub mod Answers
 pub mod Complete
 pub mod Bells
+pub mod Shipped

@@ -14,6 +14,8 @@ abbrev pub lent : {K : Type 0} → (K → KeeperSeen) → K → K → Lent
 lent seen old new = record { before = seen old; after = seen new; same = new ≡ old }
 
 pub record Service (L : Type 0) : Type 1 where
+  -- the type of the door
+  pub door_type : Type 0
   pub clock : Over ClockSeen
   pub door : Over (DoorSeen L)
   pub link : L → LinkSeen
@@ -21,7 +23,8 @@ pub record Service (L : Type 0) : Type 1 where
   pub idle : Type 0
 
 abbrev pub service : {C D L : Type 0} → (C → ClockSeen) → (D → DoorSeen L) → (L → LinkSeen) → C → C → D → D → Service L
-service clock door link clock_old clock_new door_old door_new = record {
+service {D = D} clock door link clock_old clock_new door_old door_new = record {
+  door_type = D;
   clock = over clock clock_old clock_new;
   door = over door door_old door_new;
   link = link;

@@ -1,16 +1,17 @@
 -- The desk that a command opens, and the work of each command on it.
 use Rattle.std.specs.Prelude.{◌≡◌, ◌≢◌, ℕ, ◌≤◌, Bool, true, false, List, Option, None, Some, Result, Ok, Err}
 use Rattle.alerts.specs.Ringing.{Hung}
-use Rattle.scripts.specs.Below.{Shown, Record, state_in, reopened, KeepsState, AreGivenInPart, IsRunInPart, items_of_lines, IsMade, IsMadeInPart, AreAsked, AreLoaded, IsLeft, IsOfKeeper, IsWhy, MayHaveAsked, TellsRowsOf, IsRace, IsRaceInPart, IsRun, IsRunOf, DeskAt, OpenWhy, IsBoard, State, grounds_of, closing}
+use Rattle.scripts.specs.Below.{Shown, Record, state_in, reopened, KeepsState, AreGivenInPart, IsRunInPart, items_of_lines, IsMade, IsMadeInPart, AreAsked, AreLoaded, IsEntered, IsLeft, IsOfKeeper, IsWhy, MayHaveAsked, NotEntered, TellsRowsOf, IsRace, IsRaceInPart, IsRun, IsRunOf, DeskAt, OpenWhy, IsBoard, State, grounds_of, closing}
 use Rattle.scripts.specs.PlannedHistory.{IsPlanned}
 use Rattle.scripts.specs.PlannedRuns.{IsPlannedInPart}
 use Rattle.scripts.specs.ShiftRuns.{IsSeatedRun, IsShiftRun, IsShiftRunInPart}
+use Rattle.desk_json.specs.Plans.{plan_in}
 use Rattle.desk_io.specs.Health.{HasFailed, IsSound, IsStill}
 use Rattle.desk_io.specs.Over.{Over}
 use Rattle.desk_net.specs.Seen.{ClockGoesOn}
 use Rattle.imports.specs.Lines.{IsImport}
 use Rattle.imports.specs.Records.{Line}
-use Rattle.keeper.specs.Seen.{KeeperSeen}
+use Rattle.keeper.specs.Seen.{KeeperSeen, kept_rows}
 use Rattle.ops_tables.specs.Tables.{TableRows}
 use Rattle.plan.specs.declared.flights.Plan.{Plan}
 use Rattle.advise.specs.Text.{IsAdviceText}
@@ -18,16 +19,19 @@ use Rattle.advise.specs.declared.candidates.Candidate.{Candidate}
 use Rattle.connections.specs.Doors.{HasLinks}
 use Rattle.connections.specs.declared.doors.ServeEnd.{ServeEnd}
 use Rattle.connections.specs.declared.doors.ServeEnd.TheVariants as ends
+use Rattle.desk_net.specs.Doors.{Links}
+use Rattle.service.specs.Staying.{IsStaying}
 use Rattle.service.specs.Doors.{IsServing}
 use Rattle.table_files.specs.declared.faults.BadTable.{BadTable as ABadTable}
 use Rattle.table_files.specs.declared.faults.TableWhy.TheVariants.{BadField}
 use Rattle.words.specs.declared.task.DeskTask.{DeskTask}
-use Rattle.words.specs.declared.task.DeskTask.TheVariants.{Run, Race, Serve, Import, Make, Advise, Planned, Shifts}
+use Rattle.words.specs.declared.task.DeskTask.TheVariants.{Run, Race, Serve, Stay, Import, Make, Advise, Planned, Shifts, Why, Check}
 use Rattle.words.specs.declared.task.Task.{Task}
 use Rattle.words.specs.declared.task.Task.TheVariants.{Desk}
+use Rattle.commands.specs.Explained.{check_text, why_text}
 use Rattle.commands.specs.Faults.{Gives, Outcome, of_opening}
 use Rattle.commands.specs.Seen.{Lent, Service}
-use Rattle.commands.specs.Inputs.{AreStated, IsFirstBad}
+use Rattle.commands.specs.Inputs.{AreStated, IsFirstBad, IsNoPlan}
 use Rattle.commands.specs.Sources.{first_of}
 use Rattle.commands.specs.declared.fault.BadInput.{BadInput as ABadInput}
 use Rattle.commands.specs.declared.fault.Fault.{Fault}
@@ -53,6 +57,14 @@ pub record Serves {L : Type 0} (service : Service L) (port most : ℕ) (desk : O
   pub door : service.door.before.health.faults ≤ service.door.after.health.faults
   pub steady_clock : IsSound service.clock.before.health → end ≢ ends.ClockFault
   pub steady_door : IsSound service.door.before.health → HasLinks service.door.before.links most → end ≢ ends.DoorFault
+
+-- Connections are served by 33 workers until the door fails, or memory runs out.
+pub record Stays {L : Type 0} (service : Service L) (port : ℕ) (desk : Over DeskAt) (answer : Outcome) : Type 0 where
+  pub end : ServeEnd
+  pub stays : IsStaying service.door_type service.link service.door service.clock desk port 33 end
+  pub says : EndSays end desk.after.state answer
+  pub clock : ClockGoesOn service.clock.before service.clock.after
+  pub door : service.door.before.health.faults ≤ service.door.after.health.faults
 
 -- The work gives its text. Or memory ran out when it was done in part.
 abbrev pub Ends : (List ℕ → Type 0) → Type 0 → Outcome → Type 0
@@ -93,6 +105,15 @@ Makes number count desk =
 abbrev pub Advises : Plan → List Candidate → Over DeskAt → Outcome → Type 0
 Advises plan candidates desk answer = Gives (IsAdviceText plan candidates (grounds_of desk.before.state)) answer × (desk.after.state ≡ desk.before.state)
 
+-- The text has every comparison that the rules make for the revisions of a release, by what the desk holds at its moment.
+-- Nothing on the desk changes.
+abbrev pub Explains : ℕ → Over DeskAt → Outcome → Type 0
+Explains release desk answer = Gives (λ text. text ≡ why_text desk.before.state release) answer × (desk.after.state ≡ desk.before.state)
+
+-- the same for a plan that nobody has filed
+abbrev pub Checks : Plan → Over DeskAt → Outcome → Type 0
+Checks plan desk answer = Gives (λ text. text ≡ check_text desk.before.state plan) answer × (desk.after.state ≡ desk.before.state)
+
 -- A script of planned redispatches was run on a desk.
 abbrev pub RunsPlanned : List ℕ → Over DeskAt → Outcome → Type 0
 RunsPlanned script desk =
@@ -121,34 +142,43 @@ ImportsFile file desk answer = (lines : List Line) × IsImport file (Some lines)
 abbrev pub AdvisesFiles : TableRows → List (List ℕ) → Over DeskAt → Outcome → Type 0
 AdvisesFiles tables texts desk answer = (plan : Plan) × (candidates : List Candidate) × AreStated tables texts plan candidates × Advises plan candidates desk answer
 
+-- the same for the plan in a file
+abbrev pub ChecksFile : List ℕ → Over DeskAt → Outcome → Type 0
+ChecksFile file desk answer = (plan : Plan) × (plan_in file ≡ Some plan) × Checks plan desk answer
+
 -- the work of a command on a desk, under these tables and over the texts of its sources
 abbrev pub Does : {L : Type 0} → DeskTask → TableRows → List (List ℕ) → Service L → Over DeskAt → Outcome → Type 0
 Does Run tables texts service = Runs (first_of texts)
 Does Race tables texts service = Races texts
 Does (Serve port most) tables texts service = Serves service port most
+Does (Stay port) tables texts service = Stays service port
 Does Import tables texts service = ImportsFile (first_of texts)
 Does (Make number count) tables texts service = Makes number count
 Does Advise tables texts service = AdvisesFiles tables texts
 Does Planned tables texts service = RunsPlanned (first_of texts)
 Does Shifts tables texts service = RunsShifts (first_of texts)
+Does (Why release) tables texts service = Explains release
+Does Check tables texts service = ChecksFile (first_of texts)
 
--- only `serve` uses the clock and the door
+-- only `serve` and `stay` use the clock and the door
 abbrev pub serves : DeskTask → Bool
 serves (Serve port most) = true
+serves (Stay port) = true
 serves _ = false
 
 -- If nothing is served, or no desk is opened, the clock and the door are unchanged.
 abbrev pub AsksNothing : DeskTask → Option Shown → Type 0 → Type 0
 AsksNothing task board idle = (serves task ≡ false → idle) × (board ≡ None → idle)
 
--- how many connections a command serves
-abbrev pub links_for : Task → ℕ
-links_for (Desk (Serve port connections)) = connections
-links_for _ = 0
+-- There is a link for each connection that a command serves. `stay` serves any number.
+abbrev pub HasLinksFor : {L : Type 0} → Option (Links L) → Task → Type 0
+HasLinksFor links (Desk (Serve port connections)) = HasLinks links connections
+HasLinksFor links (Desk (Stay port)) = (n : ℕ) → HasLinks links n
+HasLinksFor links _ = Unit {0}
 
-abbrev pub links_of : Option (Task × List (List ℕ)) → ℕ
-links_of None = 0
-links_of (Some command) = links_for command.0
+abbrev pub HasLinksOf : {L : Type 0} → Option (Links L) → Option (Task × List (List ℕ)) → Type 0
+HasLinksOf links None = Unit {0}
+HasLinksOf links (Some command) = HasLinksFor links command.0
 
 -- the bad record of a file whose first record isn't the header of an import
 abbrev pub headerless : List ℕ → ABadTable
@@ -159,9 +189,10 @@ abbrev pub LacksHeader : DeskTask → (names texts : List (List ℕ)) → ABadTa
 LacksHeader Import names texts bad = IsImport (first_of texts) None × (bad ≡ headerless (first_of names))
 LacksHeader _ names texts bad = ⊥
 
--- the first bad record of a plan and its candidates
+-- the first bad record of a plan and its candidates, or a file to check that isn't a plan
 abbrev pub HasBadInput : DeskTask → TableRows → (names texts : List (List ℕ)) → ABadInput → Type 0
 HasBadInput Advise tables names texts bad = IsFirstBad tables names texts bad
+HasBadInput Check tables names texts bad = IsNoPlan (first_of names) (first_of texts) bad
 HasBadInput _ tables names texts bad = ⊥
 
 -- The first fault in the texts of a command's sources, under these tables. No desk is opened for it.
@@ -170,11 +201,12 @@ HasFault task tables names texts (BadTable bad) = LacksHeader task names texts b
 HasFault task tables names texts (BadInput bad) = HasBadInput task tables names texts bad
 HasFault task tables names texts other = ⊥
 
--- The texts of a command's sources have no fault: a file to import has its header, and a plan and its candidates are
--- good.
+-- The texts of a command's sources have no fault: a file to import has its header, a plan and its candidates are good, and
+-- a file to check is a plan.
 abbrev pub ArePassed : DeskTask → TableRows → List (List ℕ) → Type 0
 ArePassed Import tables texts = (lines : List Line) × IsImport (first_of texts) (Some lines)
 ArePassed Advise tables texts = (plan : Plan) × (candidates : List Candidate) × AreStated tables texts plan candidates
+ArePassed Check tables texts = (plan : Plan) × (plan_in (first_of texts) ≡ Some plan)
 ArePassed _ tables texts = Unit {0}
 
 -- the lines of an import file that was read, or the bad record of a file without a header, or out of memory
@@ -193,7 +225,10 @@ pub record IsOpenOver (tables : TableRows) (keeper : Lent) (board : Shown) : Typ
   pub loaded : AreLoaded keeper.before.rows records old
   pub opening : board.opening ≡ reopened (state_in tables records)
   pub holds : IsBoard board.opening board.state
-  pub kept : KeepsState keeper.after.rows board.state
+  -- The keeper's account tells the rows that it loaded, the commit of opening, and a commit for each entry of the history.
+  pub entered : IsEntered keeper.before.account keeper.after.account tables board.opening board.state
+  -- the rows that are kept are those of the state
+  pub kept : KeepsState (kept_rows keeper.after) board.state
 
 -- No desk was opened: the keeper failed, its rows aren't those of a desk, or memory ran out. A sound keeper doesn't
 -- fail, and rows that a desk left are valid. The rows are unchanged, and at most the commit of opening was requested.
@@ -204,6 +239,8 @@ pub record IsUnopened (tables : TableRows) (keeper : Lent) (answer : Outcome) : 
   pub left : (s : State) → IsLeft s → TellsRowsOf keeper.before.rows s → IsOfKeeper (HasFailed keeper.before.health keeper.after.health) why
   pub rows : keeper.after.rows ≡ keeper.before.rows
   pub asked : MayHaveAsked keeper.before.rows tables keeper.before.commits keeper.after.commits
+  -- the same by the keeper's account, in which no commit was done
+  pub unentered : NotEntered keeper.before.account keeper.after.account tables why
 
 -- the desk at its opening, with the keeper's count from before, and the desk now
 abbrev pub desk_over : Lent → Shown → Over DeskAt
@@ -233,7 +270,9 @@ AsksAfter Asks tables keeper (Some board) =
 abbrev pub AsksToOpen : TableRows → Lent → Type 0
 AsksToOpen tables keeper = MayHaveAsked keeper.before.rows tables keeper.before.commits keeper.after.commits
 
--- `advise` stores nothing on the desk that it opens
+-- `advise`, `why` and `check` store nothing on the desk that they open
 abbrev pub AsksNoMore : DeskTask → TableRows → Lent → Type 0
 AsksNoMore Advise tables keeper = AsksToOpen tables keeper
+AsksNoMore (Why release) tables keeper = AsksToOpen tables keeper
+AsksNoMore Check tables keeper = AsksToOpen tables keeper
 AsksNoMore _ tables keeper = Unit {0}

@@ -6,20 +6,21 @@ ghost use Rattle.commands.specs.Faults.{Gives};
 ghost use Rattle.commands.specs.Seen.{lent, service};
 ghost use Rattle.commands.specs.Sources.{first_of};
 ghost use Rattle.commands.specs.Weather.{weather_text};
-ghost use Rattle.commands.specs.Working.{AdvisesFiles, AsksNothing, Does, ImportsFile};
+ghost use Rattle.commands.specs.Working.{AdvisesFiles, AsksNothing, AsksToOpen, ChecksFile, Does, Explains, ImportsFile, Opens};
 ghost use Rattle.desk_io.specs.Over.{over};
+ghost use Rattle.keeper.specs.Seen.{KeeperGoesOn};
 ghost use Rattle.words.specs.Words.{IsWithin, command_of};
-ghost use Rattle.words.specs.declared.task.DeskTask.TheVariants.{Advise, Import};
+ghost use Rattle.words.specs.declared.task.DeskTask.TheVariants.{Advise, Check, Import};
 ghost use Rattle.words.specs.declared.task.Task.TheVariants.{Desk};
 
 use crate::fault::Fault;
-use crate::inputs::inquiry_in;
+use crate::inputs::{inquiry_in, plan_to_check};
 use crate::shifts::shifts_over;
 use crate::sources::{first_name, first_of, read_files, read_sources};
-use crate::threads::{race_over, serve_over};
+use crate::threads::{race_over, serve_over, stay_over};
 use crate::weather::text_of_weather;
 use crate::working::{Answered, Ended, Provided, boardless, open_over};
-use crate::works::{Importing, Making, Planning, Running, lines_in};
+use crate::works::{Explaining, Importing, Making, Planning, Running, lines_in};
 use alerts::{Bell, Ringer};
 use desk_io::{Listed, OutOfMemory, Shelf, Text};
 use desk_net::{Clock, Door};
@@ -117,13 +118,50 @@ fn advise<K: Keeper, B: Bell, G: Gate, L: Ledger>(
     }
 }
 
+// Checks the plan in a file, unless the file isn't one.
+fn check<K: Keeper, B: Bell, G: Gate, L: Ledger>(
+    alloc: Global,
+    names: &[String],
+    texts: &Listed<Text>,
+    provided: Provided<K, B>,
+    gate: &G,
+    steps: &mut Steps<L>,
+) -> Ended<K, B>
+    ensures works { WorksUnder provided.tables (ChecksFile (first_of texts.now))
+        (lent K.seen provided.keeper result.keeper) Check (map string_bytes names.now) texts.now
+        result.board result.answer }
+    ensures rung { AreRungOver result.board (hung_all B.seen provided.ringer) (hung_all B.seen result.ringer) }
+{
+    match plan_to_check(alloc, first_name(names), first_of(texts.as_slice())) {
+        Ok(checking) => open_over(alloc, provided, checking, gate, steps),
+        Err(fault) => unopened(fault, provided),
+    }
+}
+
+// Explains the revisions of a release.
+fn explain<K: Keeper, B: Bell, G: Gate, L: Ledger>(
+    alloc: Global,
+    release: u32,
+    provided: Provided<K, B>,
+    gate: &G,
+    steps: &mut Steps<L>,
+) -> Ended<K, B>
+    ensures opens { Opens provided.tables (Explains release) (lent K.seen provided.keeper result.keeper)
+        result.board result.answer }
+    ensures asked { AsksToOpen provided.tables (lent K.seen provided.keeper result.keeper) }
+    ensures keeper { KeeperGoesOn (K.seen provided.keeper) (K.seen result.keeper) }
+    ensures rung { AreRungOver result.board (hung_all B.seen provided.ringer) (hung_all B.seen result.ringer) }
+{
+    open_over(alloc, provided, Explaining { release }, gate, steps)
+}
+
 // Does the work of a command on the desk of the rows, over the texts of its sources.
 fn work_on<
     R: Threads + Wait + Sync,
     K: Keeper + Send,
     B: Bell + Send + Drop,
     C: Clock + Send,
-    D: Door + Drop,
+    D: Door + Drop + Send,
     G: Gate + Sync,
     L: Ledger,
 >(
@@ -169,6 +207,7 @@ where
             gate,
             steps,
         ),
+        DeskTask::Stay { port } => stay_over(rt, alloc, provided, port, clock, door, gate, steps),
         DeskTask::Import => {
             let ended = import(alloc, names, &texts, provided, gate, steps);
             Answered { ended, clock, door }
@@ -189,6 +228,14 @@ where
             let ended = shifts_over(alloc, provided, &texts, gate, steps);
             Answered { ended, clock, door }
         }
+        DeskTask::Why { release } => {
+            let ended = explain(alloc, release, provided, gate, steps);
+            Answered { ended, clock, door }
+        }
+        DeskTask::Check => {
+            let ended = check(alloc, names, &texts, provided, gate, steps);
+            Answered { ended, clock, door }
+        }
     }
 }
 
@@ -199,7 +246,7 @@ fn read_under<
     K: Keeper + Send,
     B: Bell + Send + Drop,
     C: Clock + Send,
-    D: Door + Drop,
+    D: Door + Drop + Send,
     G: Gate + Sync,
     L: Ledger,
 >(
@@ -222,7 +269,7 @@ where
         (lent K.seen provided.keeper result.ended.keeper) task (map string_bytes names.now)
         result.ended.board result.ended.answer }
     ensures idle { AsksNothing task result.ended.board ((result.clock ≡ clock) × (result.door ≡ door)) }
-    ensures rung { AreRungUnder (S.seen shelf.old).sources task (map string_bytes names.now)
+    ensures rung { AreRungUnder (over S.seen shelf.old shelf.new) task (map string_bytes names.now)
         (lent K.seen provided.keeper result.ended.keeper) result.ended.answer result.ended.board
         (hung_all B.seen provided.ringer) (hung_all B.seen result.ended.ringer) }
 {
@@ -244,7 +291,7 @@ fn on_desk<
     K: Keeper + Send,
     B: Bell + Send + Drop,
     C: Clock + Send,
-    D: Door + Drop,
+    D: Door + Drop + Send,
     G: Gate + Sync,
     L: Ledger,
 >(
@@ -268,7 +315,7 @@ where
         (lent K.seen keeper result.ended.keeper) task (map string_bytes names.now)
         result.ended.board result.ended.answer }
     ensures idle { AsksNothing task result.ended.board ((result.clock ≡ clock) × (result.door ≡ door)) }
-    ensures rung { AreRungUnder (S.seen shelf.old).sources task (map string_bytes names.now)
+    ensures rung { AreRungUnder (over S.seen shelf.old shelf.new) task (map string_bytes names.now)
         (lent K.seen keeper result.ended.keeper) result.ended.answer result.ended.board
         (hung_all B.seen ringer) (hung_all B.seen result.ended.ringer) }
 {
@@ -296,7 +343,7 @@ fn answer_with<
     K: Keeper + Send,
     B: Bell + Send + Drop,
     C: Clock + Send,
-    D: Door + Drop,
+    D: Door + Drop + Send,
     G: Gate + Sync,
     L: Ledger,
 >(
@@ -320,7 +367,7 @@ where
         (service C.seen D.seen D.Link.seen clock result.clock door result.door)
         (lent K.seen keeper result.ended.keeper) (command_of (map string_bytes words.now))
         result.ended.board result.ended.answer }
-    ensures rung { AreRungAfter (S.seen shelf.old).sources (command_of (map string_bytes words.now))
+    ensures rung { AreRungAfter (over S.seen shelf.old shelf.new) (command_of (map string_bytes words.now))
         (lent K.seen keeper result.ended.keeper) result.ended.answer result.ended.board
         (hung_all B.seen ringer) (hung_all B.seen result.ended.ringer) }
 {
@@ -344,14 +391,14 @@ where
     }
 }
 
-/// Runs the command in the arguments. Only `serve` and `race` may wait.
+/// Runs the command in the arguments. Only `serve`, `stay` and `race` may wait.
 pub(crate) fn answer_to<
     R: Threads + Wait + Sync,
     S: Shelf,
     K: Keeper + Send,
     B: Bell + Send + Drop,
     C: Clock + Send,
-    D: Door + Drop,
+    D: Door + Drop + Send,
     G: Gate + Sync,
 >(
     rt: &R,
@@ -370,7 +417,7 @@ where
         (service C.seen D.seen D.Link.seen clock result.clock door result.door)
         (lent K.seen keeper result.ended.keeper) (command_of (map string_bytes words.now))
         result.ended.board result.ended.answer }
-    ensures rung { AreRungAfter (S.seen shelf.old).sources (command_of (map string_bytes words.now))
+    ensures rung { AreRungAfter (over S.seen shelf.old shelf.new) (command_of (map string_bytes words.now))
         (lent K.seen keeper result.ended.keeper) result.ended.answer result.ended.board
         (hung_all B.seen ringer) (hung_all B.seen result.ended.ringer) }
 {

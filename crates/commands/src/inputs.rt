@@ -1,14 +1,15 @@
-ghost use Rattle.std.specs.Prelude.{◌≡◌, ◌≢◌, None, Ok, IfOk, IfErr, MatchResult, map, string_bytes};
+ghost use Rattle.std.specs.Prelude.{◌≡◌, ◌≢◌, None, Some, Ok, IfOk, IfErr, MatchResult, map, string_bytes};
 ghost use Rattle.advise.specs.Candidates.{AreCandidates};
 ghost use Rattle.candidate_files.specs.Candidates.{AreCandidatesIn};
 ghost use Rattle.commands.specs.Faults.{OnInput};
-ghost use Rattle.commands.specs.Inputs.{AreStated, IsBadPlan, IsBadRecord, IsBadCandidate, IsFirstBad, StatesPlan};
+ghost use Rattle.commands.specs.Inputs.{AreStated, IsBadPlan, IsBadRecord, IsBadCandidate, IsFirstBad, IsNoPlan, StatesPlan};
 ghost use Rattle.commands.specs.Sources as spec;
+ghost use Rattle.desk_json.specs.Plans.{plan_in};
 ghost use Rattle.plan.specs.Check.{IsPlan, plan_fault};
 
 use crate::fault::{BadInput, Fault, InputWhy};
 use crate::sources::{first_name, first_of, second_name, second_of};
-use crate::works::Advising;
+use crate::works::{Advising, Checking};
 use advise::Candidate;
 use candidate_files::{BadCandidate, read_candidates};
 use desk_io::{Listed, OutOfMemory, Text};
@@ -42,16 +43,27 @@ fn tested(alloc: Global, name: &str, plan: Plan, tables: &Tables) -> Result<Plan
     }
 }
 
+// Reads a plan.
+fn plan_read(alloc: Global, name: &str, text: &[u8]) -> Result<Plan, Fault>
+    ensures reads { MatchResult result (λ plan. plan_in text.now ≡ Some plan) (OnInput (IsNoPlan name.now text.now)) }
+    ensures form { IfOk result IsPlan }
+{
+    match read_plan(alloc, text) {
+        Ok(plan) => Ok(plan),
+        Err(PlanText::NotPlan) => Err(bad_input(alloc, name, 1, InputWhy::NotPlan)),
+        Err(PlanText::OutOfMemory) => Err(Fault::OutOfMemory),
+    }
+}
+
 // Reads a plan, and tests it as a draft is tested.
 fn plan_in(alloc: Global, name: &str, text: &[u8], tables: &Tables) -> Result<Plan, Fault>
     ensures states { MatchResult result (StatesPlan tables.now text.now)
         (OnInput (IsBadPlan tables.now name.now text.now)) }
     ensures form { IfOk result IsPlan }
 {
-    match read_plan(alloc, text) {
+    match plan_read(alloc, name, text) {
         Ok(plan) => tested(alloc, name, plan, tables),
-        Err(PlanText::NotPlan) => Err(bad_input(alloc, name, 1, InputWhy::NotPlan)),
-        Err(PlanText::OutOfMemory) => Err(Fault::OutOfMemory),
+        Err(fault) => Err(fault),
     }
 }
 
@@ -114,6 +126,18 @@ pub(crate) fn inquiry_in(
 {
     match plan_in(alloc, first_name(names), first_of(texts), tables) {
         Ok(plan) => inquiry_on(alloc, names, texts, plan, tables),
+        Err(fault) => Err(fault),
+    }
+}
+
+/// The plan in a file, which may fail the tests of a draft, or the fault that the file isn't a plan.
+pub(crate) fn plan_to_check(alloc: Global, name: &str, text: &[u8]) -> Result<Checking, Fault>
+    ensures reads { MatchResult result (λ work. plan_in text.now ≡ Some work.plan)
+        (OnInput (IsNoPlan name.now text.now)) }
+    ensures plan { IfOk result (λ work. IsPlan work.plan) }
+{
+    match plan_read(alloc, name, text) {
+        Ok(plan) => Ok(Checking { plan }),
         Err(fault) => Err(fault),
     }
 }

@@ -2,6 +2,7 @@
 #![tactic(auto)]
 
 mod commands;
+mod explained;
 mod fault;
 mod inputs;
 mod rung;
@@ -14,4 +15,5 @@ mod working;
 mod works;
 
 pub use scripts::Gate;
+pub use threads::WORKERS;
 pub use top::{Ending, desk_main};

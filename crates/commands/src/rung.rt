@@ -39,7 +39,7 @@ pub(crate) fn answer_rung<
     K: Keeper + Send,
     B: Bell + Send + Drop,
     C: Clock + Send,
-    D: Door + Drop,
+    D: Door + Drop + Send,
     G: Gate + Sync,
 >(
     rt: &R,
@@ -58,7 +58,7 @@ where
         (service C.seen D.seen D.Link.seen clock result.clock door result.door)
         (lent K.seen keeper result.keeper) (command_of (map string_bytes words.now))
         result.board result.answer }
-    ensures bells { AreHandedBack (S.seen shelf.old).sources (command_of (map string_bytes words.now))
+    ensures bells { AreHandedBack (over S.seen shelf.old shelf.new) (command_of (map string_bytes words.now))
         (lent K.seen keeper result.keeper) result.answer result.board (map B.seen bells.items)
         (map B.seen result.bells.items) (map (dropped_seen B.seen) result.dropped.items) }
 {

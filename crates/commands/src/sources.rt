@@ -11,7 +11,7 @@ use ops_tables::Tables;
 use std::alloc::Global;
 use table_files::read_tables;
 
-/// Reads the whole source of a name.
+/// Reads the whole source of a name, from its start to its end, and nothing else.
 pub(crate) fn read_source<S: Shelf>(alloc: Global, shelf: &mut S, name: &str) -> Result<Text, Fault>
     ensures read { ReadsSource (over S.seen shelf.old shelf.new) name.now result }
     ensures on { ShelfGoesOn (Holds (S.seen shelf.old) name.now) (S.seen shelf.old) (S.seen shelf.new) }
@@ -24,7 +24,7 @@ pub(crate) fn read_source<S: Shelf>(alloc: Global, shelf: &mut S, name: &str) ->
     }
 }
 
-/// Reads the whole sources of names, in order, or returns the first fault.
+/// Reads the whole sources of names, each once and in order, and nothing else. Or returns the first fault.
 pub(crate) fn read_sources<S: Shelf>(
     alloc: Global,
     shelf: &mut S,
@@ -84,9 +84,9 @@ pub(crate) fn second_name(names: &[String]) -> &str
     }
 }
 
-/// Reads the thirteen tables.
+/// Reads the thirteen tables, each once and in order, and nothing else.
 pub(crate) fn read_files<S: Shelf>(alloc: Global, shelf: &mut S) -> Result<Tables, Fault>
-    ensures read { ReadsFiles (over S.seen shelf.old shelf.new) result }
+    ensures read { ReadsFiles (over S.seen shelf.old shelf.new) (S.seen shelf.new).reads result }
     ensures on { ShelfGoesOn (HoldsFiles (S.seen shelf.old)) (S.seen shelf.old) (S.seen shelf.new) }
 {
     match read_tables(alloc, shelf) {

@@ -2,7 +2,7 @@ ghost use Rattle.std.specs.Prelude.{◌≡◌, [], true, None};
 ghost use Rattle.alerts.specs.Ringing.{hung_all};
 ghost use Rattle.commands.specs.Bells.{AreRungOver};
 ghost use Rattle.commands.specs.Seen.{lent, service};
-ghost use Rattle.commands.specs.Working.{EndSays, Opens, Races, Serves, told_of};
+ghost use Rattle.commands.specs.Working.{EndSays, Opens, Races, Serves, Stays, told_of};
 ghost use Rattle.scripts.specs.Below.{shown, desk_at, desk_seen, DeskGoesOn};
 ghost use Rattle.desk_io.specs.Over.{over};
 ghost use Rattle.keeper.specs.Seen.{KeeperGoesOn};
@@ -15,11 +15,14 @@ use desk_io::{Listed, OutOfMemory, Text};
 use desk_net::{Clock, Door};
 use keeper::Keeper;
 use scripts::{Board, Desk, Gate, OpenFault, Raced, Steps, open, race};
-use service::{Left, serve_door};
+use service::{Left, serve_door, stay_at_door};
 use std::alloc::Global;
 use std::sync::Wait;
 use std::sync::ledger::Ledger;
 use std::thread::Threads;
+
+/// How many workers serve connections. One more than may be busy, so that one waits at the door.
+pub const WORKERS: u32 = 33;
 
 // The text of a race, or out of memory.
 fn told_of(text: Result<Text, OutOfMemory>) -> Result<Text, Fault>
@@ -110,7 +113,7 @@ fn serve<
     K: Keeper + Send,
     B: Bell + Send,
     C: Clock + Send,
-    D: Door + Drop,
+    D: Door + Drop + Send,
     G: Gate + Sync,
 >(
     rt: &R,
@@ -151,7 +154,7 @@ pub(crate) fn serve_over<
     K: Keeper + Send,
     B: Bell + Send,
     C: Clock + Send,
-    D: Door + Drop,
+    D: Door + Drop + Send,
     G: Gate + Sync,
     L: Ledger,
 >(
@@ -190,6 +193,106 @@ where
                 clock,
                 door,
             } = serve(rt, alloc, desk, port, connections, clock, door, gate);
+            let ended = left(answer, desk);
+            Answered { ended, clock, door }
+        }
+        Err(
+            OpenFault {
+                keeper,
+                ringer,
+                why,
+            },
+        ) => {
+            let ended = boardless(Err(Fault::from(why)), keeper, ringer);
+            Answered { ended, clock, door }
+        }
+    }
+}
+
+// Serves connections at a port over a desk that was just opened, by workers.
+fn stay<
+    R: Threads + Wait + Sync,
+    K: Keeper + Send,
+    B: Bell + Send,
+    C: Clock + Send,
+    D: Door + Drop + Send,
+    G: Gate + Sync,
+>(
+    rt: &R,
+    alloc: Global,
+    desk: Desk<K, B>,
+    port: u16,
+    clock: C,
+    door: D,
+    gate: &G,
+) -> Served<K, B, C, D>
+where
+    D::Link: Send,
+    requires opened { desk.board.state ≡ desk.board.opening }
+    requires none { desk.board.state.entries ≡ [] }
+    ensures stays { Stays (service C.seen D.seen D.Link.seen clock result.clock door result.door) port
+        (over (desk_at K.seen) desk result.desk) result.answer }
+    ensures desk { DeskGoesOn (desk_seen K.seen B.seen desk) (desk_seen K.seen B.seen result.desk) }
+{
+    let Left {
+        desk,
+        clock,
+        door,
+        end,
+    } = stay_at_door(rt, alloc, desk, clock, door, gate, port, WORKERS);
+    let answer = answer_of_end(alloc, end, &desk.board);
+    Served {
+        answer,
+        desk,
+        clock,
+        door,
+    }
+}
+
+/// Opens a desk over the tables and the keeper's rows, and serves connections over it by workers.
+pub(crate) fn stay_over<
+    R: Threads + Wait + Sync,
+    K: Keeper + Send,
+    B: Bell + Send,
+    C: Clock + Send,
+    D: Door + Drop + Send,
+    G: Gate + Sync,
+    L: Ledger,
+>(
+    rt: &R,
+    alloc: Global,
+    provided: Provided<K, B>,
+    port: u16,
+    clock: C,
+    door: D,
+    gate: &G,
+    steps: &mut Steps<L>,
+) -> Answered<K, B, C, D>
+where
+    D::Link: Send,
+    ensures opens { Opens provided.tables
+        (Stays (service C.seen D.seen D.Link.seen clock result.clock door result.door) port)
+        (lent K.seen provided.keeper result.ended.keeper) result.ended.board result.ended.answer }
+    ensures keeper { KeeperGoesOn (K.seen provided.keeper) (K.seen result.ended.keeper) }
+    ensures rung { AreRungOver result.ended.board (hung_all B.seen provided.ringer)
+        (hung_all B.seen result.ended.ringer) }
+    // If no desk was opened, the clock and the door are unchanged.
+    ensures idle { result.ended.board ≡ None → (result.clock ≡ clock) × (result.door ≡ door) }
+{
+    let Provided {
+        tables,
+        keeper,
+        ringer,
+    } = provided;
+    match open(alloc, tables, keeper, ringer, steps) {
+        Ok(desk) => {
+            let _ = desk.board.now();
+            let Served {
+                answer,
+                desk,
+                clock,
+                door,
+            } = stay(rt, alloc, desk, port, clock, door, gate);
             let ended = left(answer, desk);
             Answered { ended, clock, door }
         }

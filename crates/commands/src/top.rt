@@ -54,27 +54,31 @@ fn write<O: Sink>(alloc: Global, answer: Result<Text, Fault>, out: &mut O) -> u8
 /// commands, and what each prints.
 ///
 /// `weather` reads only its file, and doesn't use the keeper. Any other command reads the thirteen tables, then the
-/// sources that it names, each whole and in order. It loads the keeper's rows, and works on the desk of these rows.
+/// sources that it names, each once, whole and in order, and nothing else. Tables and texts are those of the bytes that
+/// these reads returned. It loads the keeper's rows, and works on the desk of these rows.
 ///
 /// The first fault in this order is reported. When a step is installed it rings the bells, and meanwhile nothing else
 /// is done on the desk. The exit status is:
 ///
 /// - 0: the command was completed, and its result was written.
 /// - 2: exactly if the arguments form no command; `error 2 Usage` is written.
-/// - 3: only if the shelf's count of faults rose or is saturated; `error 3 ReadFault NAME`.
+/// - 3: only if the last read of the source NAME failed, and the shelf's count of faults rose or is saturated; `error 3
+///   ReadFault NAME`.
 /// - 4: only if the sink's count of faults rose or is saturated. A prefix of the text was written.
 /// - 5: only if the keeper's count of faults rose or is saturated; `error 5 KeeperFault`.
-/// - 6: exactly if the table NAME has a bad record, the first of which is NUMBER (the header is 1), or an import
-///   lacks its header; `error 6 BadTable NAME NUMBER WHY`.
-/// - 7: exactly if the loaded rows aren't those of a desk. `error 7 BadRow KIND KEY WHY` or `error 7 BadPair KIND KEY
-///   KIND KEY` is their first fault.
+/// - 6: exactly if the table NAME, as it was read, has a bad record, the first of which is NUMBER (the header is 1), or
+///   an import lacks its header; `error 6 BadTable NAME NUMBER WHY`.
+/// - 7: exactly if the loaded rows aren't those of a desk, if the keeper shows them. `error 7 BadRow KIND KEY WHY` or
+///   `error 7 BadPair KIND KEY KIND KEY` is their first fault.
 /// - 8: memory ran out, and nothing was written. The changes of a prefix of each script stay, and at most one tick
 ///   more.
 /// - 9: only if the door's count of faults rose or is saturated; `error 9 DoorFault`.
-/// - 10: exactly if the source NAME has more than 64 MiB; `error 10 InputTooLong NAME`.
+/// - 10: exactly if the reads of the source NAME returned more than 64 MiB; `error 10 InputTooLong NAME`. After a 3, 6
+///   or 10 nothing more is read.
 /// - 11: only if the clock's count of faults rose or is saturated; `error 11 ClockFault`.
-/// - 12: exactly if the plan NAME of `advise` can't be read or fails a test, or NUMBER is the first bad record of its
-///   candidates NAME; `error 12 BadInput NAME NUMBER WHY`. This is tested before the rows are loaded.
+/// - 12: exactly if the plan NAME of `advise` can't be read or fails a test, NUMBER is the first bad record of its
+///   candidates NAME, or the file NAME of `check` isn't a plan; `error 12 BadInput NAME NUMBER WHY`. This is tested
+///   before the rows are loaded.
 ///
 /// A sound shelf, sink, keeper, door or clock doesn't cause 3, 4, 5, 9 or 11. There are two exceptions: the shelf
 /// lacks a source, or the door has fewer links than connections. If nothing is served, or no desk is opened, the
@@ -86,7 +90,7 @@ pub fn desk_main<
     C: Clock + Send + Drop,
     K: Keeper + Send,
     B: Bell + Send + Drop,
-    D: Door + Drop,
+    D: Door + Drop + Send,
     G: Gate + Sync,
 >(
     rt: &R,
@@ -131,7 +135,8 @@ where
     ensures keeper { KeeperGoesOn (K.seen keeper) (K.seen result.keeper) }
     // A sound keeper never ends a run. Since its count is unchanged, it causes no refusal either.
     ensures steady { IsSound (K.seen keeper).health → result.status ≢ 5 }
-    // Whatever the status: without a board the rows are unchanged. With a board they match its state.
+    // Whatever the status: without a board the rows, if the keeper shows them, are unchanged. With a board they match
+    // its state.
     ensures kept { AreKeptOver (lent K.seen keeper result.keeper) result.board }
     // The board is valid. Its history is legal from its opening state. Each active release carries both signatures on
     // its exact text. It fails no rule, or has one alert that names exactly the rules that it fails. Each part of the
@@ -142,8 +147,8 @@ where
     // with its place and with how many notices it heard. Without a board no bell was rung.
     //
     // `shifts`: if the run gave its text, each bell has heard the notices of the desks at which its person sat when they
-    // were made. The text and the notices are those of one run.
-    ensures bells { EndsProgram (λ answer. AreHandedBack (S.seen shelf.old).sources
+    // were made. The text and the notices are those of one run, over the script that the last reads returned.
+    ensures bells { EndsProgram (λ answer. AreHandedBack (over S.seen shelf.old shelf.new)
         (command_of (map string_bytes words.now)) (lent K.seen keeper result.keeper) answer result.board
         (map B.seen bells.items) (map B.seen result.bells.items) (map (dropped_seen B.seen) result.dropped.items))
         (over O.seen out.old out.new) result.status }

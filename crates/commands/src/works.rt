@@ -2,15 +2,17 @@ ghost use Rattle.std.specs.Prelude.{◌≡◌, ◌≤◌, ℕ, None, Some, Ok, E
 ghost use Rattle.std.specs.List.{AllByRecursion};
 ghost use Rattle.advise.specs.Candidates.{AreCandidates};
 ghost use Rattle.advise.specs.Text.{IsAdviceText};
+ghost use Rattle.commands.specs.Explained as explained;
 ghost use Rattle.commands.specs.Faults.{Gives};
 ghost use Rattle.commands.specs.Sources.{first_of};
 ghost use Rattle.commands.specs.Working as spec;
-ghost use Rattle.commands.specs.Working.{Advises, Imports, Makes, Runs, RunsPlanned, SaysLines, since};
+ghost use Rattle.commands.specs.Working.{Advises, Checks, Explains, Imports, Makes, Runs, RunsPlanned, SaysLines, since};
 ghost use Rattle.scripts.specs.Below.{desk_at, desk_seen, DeskGoesOn, grounds_of};
 ghost use Rattle.desk_io.specs.Over.{over};
 ghost use Rattle.imports.specs.Records.{HasForms};
 ghost use Rattle.plan.specs.Check.{IsPlan, plan_fault};
 
+use crate::explained::{check_text, why_text};
 use crate::fault::Fault;
 use crate::sources::first_of;
 use crate::working::Work;
@@ -332,5 +334,93 @@ impl<K: Keeper, B: Bell, G: Gate, L: Ledger> Work<K, B, G, Steps<L>> for Plannin
         ensures on { DeskGoesOn (desk_seen K.seen B.seen desk.old) (desk_seen K.seen B.seen desk.new) }
     {
         plan(alloc, desk, first_of(self.texts.as_slice()), gate, steps)
+    }
+}
+
+/// Explains the revisions of a release.
+#[derive(Drop)]
+pub(crate) struct Explaining {
+    pub release: u32,
+}
+
+fn explain(alloc: Global, board: &Board, release: u32) -> Result<Text, Fault>
+    ensures { Gives (λ text. text ≡ explained.why_text board.now.state release) result }
+{
+    Ok(why_text(alloc, board, release)?)
+}
+
+impl<K: Keeper, B: Bell, G: Gate, L: Ledger> Work<K, B, G, Steps<L>> for Explaining {
+    ghost use Rattle.std.specs.Prelude.{◌≡◌};
+    ghost use Rattle.commands.specs.Working.{Explains};
+
+    ghost seen = { K.seen };
+
+    ghost heard = { B.seen };
+
+    ghost ready = { λ tables work. Unit {0} };
+
+    ghost does = { λ work. Explains work.release };
+
+    ghost asks = { λ work before after. after.commits ≡ before.commits };
+
+    fn work(
+        self,
+        alloc: Global,
+        desk: &mut Desk<K, B>,
+        gate: &G,
+        steps: &mut Steps<L>,
+    ) -> Result<Text, Fault>
+        requires { Unit {0} }
+        ensures does { (less : ℕ) → less ≤ (K.seen desk.old.keeper).health.faults
+            → Explains self.release (since less (over (desk_at K.seen) desk.old desk.new)) result }
+        ensures asks { (K.seen desk.new.keeper).commits ≡ (K.seen desk.old.keeper).commits }
+        ensures on { DeskGoesOn (desk_seen K.seen B.seen desk.old) (desk_seen K.seen B.seen desk.new) }
+    {
+        explain(alloc, &desk.board, self.release)
+    }
+}
+
+/// Checks a plan that isn't filed.
+#[derive(Drop)]
+pub(crate) struct Checking {
+    pub plan: Plan,
+}
+
+fn check(alloc: Global, board: &Board, plan: &Plan) -> Result<Text, Fault>
+    requires { IsPlan plan.now }
+    ensures { Gives (λ text. text ≡ explained.check_text board.now.state plan.now) result }
+{
+    Ok(check_text(alloc, board, plan)?)
+}
+
+impl<K: Keeper, B: Bell, G: Gate, L: Ledger> Work<K, B, G, Steps<L>> for Checking {
+    ghost use Rattle.std.specs.Prelude.{◌≡◌};
+    ghost use Rattle.plan.specs.Check.{IsPlan};
+    ghost use Rattle.commands.specs.Working.{Checks};
+
+    ghost seen = { K.seen };
+
+    ghost heard = { B.seen };
+
+    ghost ready = { λ tables work. IsPlan work.plan };
+
+    ghost does = { λ work. Checks work.plan };
+
+    ghost asks = { λ work before after. after.commits ≡ before.commits };
+
+    fn work(
+        self,
+        alloc: Global,
+        desk: &mut Desk<K, B>,
+        gate: &G,
+        steps: &mut Steps<L>,
+    ) -> Result<Text, Fault>
+        requires { IsPlan self.plan }
+        ensures does { (less : ℕ) → less ≤ (K.seen desk.old.keeper).health.faults
+            → Checks self.plan (since less (over (desk_at K.seen) desk.old desk.new)) result }
+        ensures asks { (K.seen desk.new.keeper).commits ≡ (K.seen desk.old.keeper).commits }
+        ensures on { DeskGoesOn (desk_seen K.seen B.seen desk.old) (desk_seen K.seen B.seen desk.new) }
+    {
+        check(alloc, &desk.board, &self.plan)
     }
 }

@@ -1,5 +1,5 @@
 -- Rounds of sixteen, until all connections have come.
-use Rattle.std.proofs.Common.{◌≡◌, ◌⊎◌, inl, inr, ⊎_elim, ℕ, suc, ◌+◌, ◌-◌, ◌*◌, ◌<◌, ◌≤◌, nat_le, Bool, true, false, refl, arith, leb-true, leb-false}
+use Rattle.std.proofs.Common.{◌≡◌, ◌⊎◌, inl, inr, ⊎_elim, ℕ, suc, ◌+◌, ◌-◌, ◌*◌, ◌<◌, nat_le, Bool, true, false, refl, arith, leb-true, leb-false}
 use Rattle.std.specs.Prelude.{min}
 
 -- so many whole rounds have come, or all connections

@@ -1,9 +1,9 @@
 -- Connections that were served at once, and then one more.
-use Rattle.std.proofs.Common.{◌≡◌, ◌⊎◌, inl, inr, ⊎_elim, ℕ, suc, ◌+◌, ◌-◌, ◌<◌, ◌≤◌, nat_lt, Bool, true, false, List, [], ◌∷◌, ◌++◌, length, Option, Some, None, Ok, Err, refl, ap, sym, subst, ◌∙◌, arith, ltb-true, ltb-false}
+use Rattle.std.proofs.Common.{◌≡◌, ◌⊎◌, inl, inr, ⊎_elim, ℕ, suc, ◌+◌, ◌-◌, ◌<◌, ◌≤◌, nat_lt, Bool, true, false, List, [], ◌∷◌, ◌++◌, length, Option, Some, None, Ok, Err, append-nil, append_assoc, refl, ap, sym, subst, ◌∙◌, arith, ltb-true, ltb-false}
 use Rattle.std.specs.Prelude.{if◌then◌else◌}
 use mathlib.Core.List.{IsPrefix}
-use Rattle.connections.specs.Doors.{HasLinks, Visit, met_after}
-use Rattle.connections.specs.Rounds.{AnyList, AreAccepted, AreGivenBack, AreInTurns, BeginsWith, EndsAccepting, HasAllOf, HasLanes, HasNoneFrom, IsBack, IsGivenBack, IsInTurns, IsRound, left_by}
+use Rattle.connections.specs.Doors.{HasLinks, Visit, came_of, met_after}
+use Rattle.connections.specs.Rounds.{AnyList, AreAccepted, AreGivenBack, AreInTurns, BeginsWith, EndsAccepting, HasAllOf, HasLanes, HasNoneFrom, IsBack, IsGivenBack, IsLetOut, back_one, IsInTurns, IsRound, left_by}
 use Rattle.connections.specs.declared.doors.Met.{Met}
 use Rattle.connections.specs.declared.rounds.Visited.{Visited}
 use Rattle.connections.specs.declared.serving.Served.{Served}
@@ -11,7 +11,7 @@ use Rattle.connections.specs.declared.serving.Served.TheVariants as served
 use Rattle.desk_io.proofs.HealthLaws.{rose_before}
 use Rattle.desk_io.specs.Health.{GoesOnWhere, HasFailedWhere, RoseOrFull}
 use Rattle.desk_io.specs.Over.{Over}
-use Rattle.desk_net.specs.Doors.{Accepts, HasNext, Links, TakesBack}
+use Rattle.desk_net.specs.Doors.{Accepts, HasNext, LetsIn, LetsOut, Links, Passed, TakesBack, passed}
 use Rattle.desk_net.specs.Seen.{DoorSeen}
 use Rattle.turn_lock.proofs.ElementLaws.{prefix_self, prefix_trans}
 use Rattle.turn_lock.specs.Elements.{AddsNoneOf, HasNoneAbove, IsAmong, elements_of}
@@ -122,6 +122,7 @@ round_none bears says lane most door first list numbers splits done none given e
   visits = [];
   are = tt;
   accepted = accepted_none door.links;
+  let_in = ap (λ ls. passed ls door.passed.went) (sym (append-nil door.passed.came));
   left = empty;
   lanes = λ k low high. absurd (omega (arith, low, high));
   given = omega (arith, given);
@@ -138,12 +139,13 @@ has_next (Some links) most some has = omega (arith, some, has)
 -- the door failed
 pub round_failed : {L E F : Type 0} (bears : E → ℕ) (says : ℕ → List E → List E → L → L → Served → Type 0) (lane most : ℕ) (door : Over (DoorSeen L)) (first list : List E) (numbers : List ℕ) (splits : ℕ) (done : List (Visited L))
     (e : F) → 0 < most → splits + 1 ≡ lane → done ≡ [] → Accepts door.before.links door.after.links (Err e) → door.after.opened_at ≡ door.before.opened_at
-    → GoesOnWhere (HasNext door.before.links) door.before.health door.after.health → HasFailedWhere (HasNext door.before.links) door.before.health door.after.health
+    → door.after.passed ≡ door.before.passed → GoesOnWhere (HasNext door.before.links) door.before.health door.after.health → HasFailedWhere (HasNext door.before.links) door.before.health door.after.health
     → IsRound bears says lane most door first list numbers splits done true
-round_failed {L = L} bears says lane most door first list numbers splits done e some given empty told port goes failed = record {
+round_failed {L = L} bears says lane most door first list numbers splits done e some given empty told port same_passed goes failed = record {
   visits = [];
   are = tt;
   accepted = accepts_none door.before.links door.after.links told;
+  let_in = same_passed ∙ ap (λ ls. passed ls door.before.passed.went) (sym (append-nil door.before.passed.came));
   left = empty;
   lanes = λ k low high. absurd (omega (arith, low, high));
   given = omega (arith, given);
@@ -190,11 +192,11 @@ lanes_more lane n deep own numbers number is lanes = λ k low high.
     (⊎_elim (λ same. among_right k deep own (subst (IsAmong k) (sym number) (inl same))) (λ above. among_left k deep own (lanes k above (omega (arith, high)))) (split_le lane k low))
 
 pub round_more : {L E : Type 0} (F : Type 0) (bears : E → ℕ) (says : ℕ → List E → List E → L → L → Served → Type 0) (lane most : ℕ) (old mid new : DoorSeen L) (first split own deep list before : List E) (own_numbers deep_numbers numbers : List ℕ)
-    (splits deep_splits : ℕ) (came : L) (one : Visited L) (done all : List (Visited L)) (failed : Bool) → 0 < most → splits ≡ deep_splits → Accepts {E = F} old.links mid.links (Ok came) → mid.opened_at ≡ old.opened_at
-    → GoesOnWhere (HasNext old.links) old.health mid.health → says lane before own came one.link one.served → before ≡ first → split ≡ first → IsPrefix before own → elements_of bears lane before ≡ []
+    (splits deep_splits : ℕ) (came : L) (one : Visited L) (done all : List (Visited L)) (failed : Bool) → 0 < most → splits ≡ deep_splits → Accepts {E = F} old.links mid.links (Ok came)
+    → mid.passed ≡ passed (old.passed.came ++ came ∷ []) old.passed.went → mid.opened_at ≡ old.opened_at → GoesOnWhere (HasNext old.links) old.health mid.health → says lane before own came one.link one.served → before ≡ first → split ≡ first → IsPrefix before own → elements_of bears lane before ≡ []
     → IsRound bears says (lane + 1) (most - 1) (record { before = mid; after = new }) split deep deep_numbers deep_splits done failed → IsJoined bears lane own deep list own_numbers deep_numbers numbers
     → all ≡ done ++ one ∷ [] → IsRound bears says lane most (record { before = old; after = new }) first list numbers splits all failed
-round_more {L} {E} F bears says lane most old mid new first split own deep list before own_numbers deep_numbers numbers splits deep_splits came one done all failed some same accepts port goes served begins begun since fresh rest joined items =
+round_more {L} {E} F bears says lane most old mid new first split own deep list before own_numbers deep_numbers numbers splits deep_splits came one done all failed some same accepts lets port goes served begins begun since fresh rest joined items =
     let v : Visit L = record { came = came; went = one.link; served = one.served; back = false } in
     let later = rest.later in
     let less = goes.later in
@@ -217,6 +219,10 @@ round_more {L} {E} F bears says lane most old mid new first split own deep list 
             (subst (λ (x : List E). AreInTurns bears says (BeginsWith x) AnyList (lane + 1) deep rest.visits) begun rest.are),
       );
       accepted = accepted_more F old.links mid.links new.links v rest.visits accepts rest.accepted;
+      let_in =
+          rest.let_in
+          ∙ ap (λ (p : Passed L). passed (p.came ++ came_of rest.visits) p.went) lets
+          ∙ ap (λ ls. passed ls old.passed.went) (append_assoc old.passed.came (came ∷ []) (came_of rest.visits));
       left = items ∙ ap (λ ls. ls ++ one ∷ []) rest.left;
       lanes = lanes_more lane (length rest.visits) deep_numbers own_numbers numbers joined.own_is joined.all_are rest.lanes;
       given = omega (arith, given, same);
@@ -263,21 +269,28 @@ back_err T (Some old) (Some new) went e is = is
 back_err T None (Some new) went e is = absurd is
 back_err T (Some old) None went e is = absurd is
 
-pub one_given : {L T : Type 0} (F : Type 0) (old new : Option (Links L)) (met next : Met) (one : Visited L) (x : T) → TakesBack {E = F} old new one.link (Ok x) → next ≡ met_after met one.served
-    → IsGivenBack old new met one next
-one_given F old new met next one x took counts = (true, back_ok F old new one.link x took, counts)
+pub one_given : {L T : Type 0} (F : Type 0) (old new : DoorSeen L) (met next : Met) (one : Visited L) (x : T) → TakesBack {E = F} old.links new.links one.link (Ok x)
+    → LetsOut {E = F} old.passed new.passed one.link (Ok x) → next ≡ met_after met one.served → IsGivenBack old new met one next
+one_given F old new met next one x took lets counts = (true, record { links = back_ok F old.links new.links one.link x took; let_out = lets }, counts)
 
-pub one_lost : {L F : Type 0} (T : Type 0) (old new : Option (Links L)) (met next : Met) (one : Visited L) (e : F) → TakesBack {T = T} old new one.link (Err e) → next ≡ met_after met served.OutOfMemory
-    → IsGivenBack old new met one next
-one_lost T old new met next one e took counts = (false, back_err T old new one.link e took, counts)
+pub one_lost : {L F : Type 0} (T : Type 0) (old new : DoorSeen L) (met next : Met) (one : Visited L) (e : F) → TakesBack {T = T} old.links new.links one.link (Err e)
+    → LetsOut {T = T} old.passed new.passed one.link (Err e) → next ≡ met_after met served.OutOfMemory → IsGivenBack old new met one next
+one_lost T old new met next one e took lets counts = (
+  false,
+  record {
+    links = back_err T old.links new.links one.link e took;
+    let_out = lets ∙ ap (λ ls. passed old.passed.came ls) (sym (append-nil old.passed.went));
+  },
+  counts,
+)
 
 -- nothing was left to give back
-pub given_none : {L : Type 0} (links : Option (Links L)) (met : Met) (done : List (Visited L)) (vs : List (Visit L)) → done ≡ [] → done ≡ left_by vs → AreGivenBack links links met vs met
-given_none links met done [] none is = (refl, refl)
-given_none links met done (v ∷ vs) none is = absurd (never_nil (record { link = v.went; served = v.served }) (left_by vs) (sym none ∙ is))
+pub given_none : {L : Type 0} (door : DoorSeen L) (met : Met) (done : List (Visited L)) (vs : List (Visit L)) → done ≡ [] → done ≡ left_by vs → AreGivenBack door door met vs met
+given_none door met done [] none is = (refl, refl)
+given_none door met done (v ∷ vs) none is = absurd (never_nil (record { link = v.went; served = v.served }) (left_by vs) (sym none ∙ is))
 
 -- one more was given back
-pub given_more : {L : Type 0} (old mid new : Option (Links L)) (met next last : Met) (done rest : List (Visited L)) (one : Visited L) (vs : List (Visit L)) → done ≡ rest ++ one ∷ []
+pub given_more : {L : Type 0} (old mid new : DoorSeen L) (met next last : Met) (done rest : List (Visited L)) (one : Visited L) (vs : List (Visit L)) → done ≡ rest ++ one ∷ []
     → done ≡ left_by vs → IsGivenBack old mid met one next
     → ((ws : List (Visit L)) → rest ≡ left_by ws → AreGivenBack mid new next ws last) → AreGivenBack old new met vs last
 given_more old mid new met next last done rest one [] items is (back, gave, counts) others = absurd (never_nil one rest (sym is ∙ items))
@@ -285,6 +298,6 @@ given_more {L} old mid new met next last done rest one (v ∷ vs) items is (back
     let parts = snoc_same rest (left_by vs) one (record { link = v.went; served = v.served }) (sym items ∙ is) in (
       back,
       mid,
-      subst (λ (w : Visited L). IsBack back old mid w.link) parts.1 gave,
+      subst (λ (w : Visited L). IsLetOut back old mid w.link) parts.1 gave,
       subst (λ (m : Met). AreGivenBack mid new m vs last) (counts ∙ ap (λ (w : Visited L). met_after met (if back then w.served else served.OutOfMemory)) parts.1) (others vs parts.0),
     )

@@ -7,8 +7,8 @@ use Rattle.std.proofs.lemmas.List.{map-append}
 use Rattle.std.proofs.lemmas.List.Elements.{filter-append}
 use mathlib.Core.List.{IsPrefix}
 use Rattle.connections.proofs.RoundLaws.{Follows, are_later, are_other}
-use Rattle.connections.specs.Doors.{AreAtPort, AreFewer, AreTaken, EndsServing, HadMemory, HasLinks, IsWell, Visit, back_of, came_of, counts_as, end_at_door, end_of, ended_by_clock, is_clock_fault, met_after}
-use Rattle.connections.specs.Rounds.{AnyList, AreAccepted, AreGivenBack, AreInTurns, AreServed, BeginsWith, ComesAfter, EndsAccepting, EndsRound, GoesBefore, HasAllOf, HasLanes, HasMet, HasServed, IsBack, IsInTurns, IsLast, IsRound, left_by}
+use Rattle.connections.specs.Doors.{AreAtPort, AreFewer, ArePassed, AreTaken, EndsServing, HadMemory, HasLinks, IsWell, Visit, back_of, came_of, counts_as, end_at_door, end_of, ended_by_clock, is_clock_fault, met_after}
+use Rattle.connections.specs.Rounds.{AnyList, AreAccepted, AreGivenBack, AreInTurns, AreServed, BeginsWith, ComesAfter, EndsAccepting, EndsRound, GoesBefore, HasAllOf, HasLanes, HasMet, HasServed, IsBack, IsLetOut, back_one, IsInTurns, IsLast, IsRound, left_by}
 use Rattle.connections.specs.declared.doors.Met.{Met}
 use Rattle.connections.specs.declared.doors.ServeEnd.{ServeEnd}
 use Rattle.connections.specs.declared.doors.ServeEnd.TheVariants as ends
@@ -17,7 +17,7 @@ use Rattle.connections.specs.declared.serving.Served.{Served}
 use Rattle.connections.specs.declared.serving.Served.TheVariants as served
 use Rattle.desk_io.proofs.HealthLaws.{rose_before}
 use Rattle.desk_io.specs.Health.{GoesOn, Health, IsSound, RoseOrFull}
-use Rattle.desk_net.specs.Doors.{Links}
+use Rattle.desk_net.specs.Doors.{Links, Passed, passed}
 use Rattle.desk_net.specs.Seen.{DoorSeen}
 use Rattle.turn_lock.proofs.ElementLaws.{prefix_self, prefix_trans}
 use Rattle.turn_lock.specs.Elements.{AddsNoneOf, IsAmong, elements_of}
@@ -184,13 +184,18 @@ ended_more false (Some old) None new v ws one rest = absurd one
 ended_more true (Some old) (Some mid) None v ws one rest = absurd rest
 ended_more false (Some old) (Some mid) None v ws one rest = absurd rest
 
+back_more : {L : Type 0} (back : Bool) (v : Visit L) (vs : List (Visit L)) → back_one back v.went ++ back_of vs ≡ back_of (record v { back = back } ∷ vs)
+back_more true v vs = refl
+back_more false v vs = refl
+
 -- the same connections, of which it is said whether the link was given back
-record AreReturned {L E : Type 0} (bears : E → ℕ) (says : ℕ → List E → List E → L → L → Served → Type 0) (from to : ℕ → List E → Type 0) (lane : ℕ) (list : List E) (ds : List (Visit L)) (old new : Option (Links L)) (next : Met) (vs : List (Visit L)) : Type 0 where
+record AreReturned {L E : Type 0} (bears : E → ℕ) (says : ℕ → List E → List E → L → L → Served → Type 0) (from to : ℕ → List E → Type 0) (lane : ℕ) (list : List E) (ds : List (Visit L)) (old new : DoorSeen L) (next : Met) (vs : List (Visit L)) : Type 0 where
   ws : List (Visit L)
   many : length ws ≡ length vs
   came : came_of ws ≡ came_of vs
   are : AreInTurns bears says from to lane list ws
-  ended : AreEnded old new ws
+  ended : AreEnded old.links new.links ws
+  let_out : new.passed ≡ passed old.passed.came (old.passed.went ++ back_of ws)
   met_is : HasMet next (ds ++ ws)
 
 in_turns_back : {L E : Type 0} (bears : E → ℕ) (says : ℕ → List E → List E → L → L → Served → Type 0) (from to : ℕ → List E → Type 0) (lane : ℕ) (list : List E) (v : Visit L) (back : Bool) → IsInTurns bears says from to lane list v
@@ -207,14 +212,15 @@ in_turns_back bears says from to lane list v back is = record {
   own = is.own;
 }
 
-returned : {L E : Type 0} (bears : E → ℕ) (says : ℕ → List E → List E → L → L → Served → Type 0) (from to : ℕ → List E → Type 0) (lane : ℕ) (list : List E) (ds : List (Visit L)) (old new : Option (Links L)) (met next : Met) (vs : List (Visit L))
+returned : {L E : Type 0} (bears : E → ℕ) (says : ℕ → List E → List E → L → L → Served → Type 0) (from to : ℕ → List E → Type 0) (lane : ℕ) (list : List E) (ds : List (Visit L)) (old new : DoorSeen L) (met next : Met) (vs : List (Visit L))
     → HasMet met ds → AreInTurns bears says from to lane list vs → AreGivenBack old new met vs next → AreReturned bears says from to lane list ds old new next vs
 returned {L} bears says from to lane list ds old new met next [] has are given = record {
   ws = [];
   many = refl;
   came = refl;
   are = tt;
-  ended = ended_none old new given.0;
+  ended = ended_none old.links new.links (ap (λ (d : DoorSeen L). d.links) given.0);
+  let_out = ap (λ (d : DoorSeen L). d.passed) given.0 ∙ ap (λ ls. passed old.passed.came ls) (sym (append-nil old.passed.went));
   met_is = subst (λ (m : Met). HasMet m (ds ++ [])) (sym given.1) (subst (λ (l : List (Visit L)). HasMet met l) (sym (append-nil ds)) has);
 }
 returned {L} bears says from to lane list ds old new met next (v ∷ vs) has are (back, mid, one, others) =
@@ -225,7 +231,11 @@ returned {L} bears says from to lane list ds old new met next (v ∷ vs) has are
       many = ap suc rest.many;
       came = ap (λ ls. v.came ∷ ls) rest.came;
       are = (in_turns_back bears says from to lane list v back are.0, rest.are);
-      ended = ended_more back old mid new v rest.ws one rest.ended;
+      ended = ended_more back old.links mid.links new.links v rest.ws one.links rest.ended;
+      let_out =
+          rest.let_out
+          ∙ ap (λ (p : Passed L). passed p.came (p.went ++ back_of rest.ws)) one.let_out
+          ∙ ap (λ ls. passed old.passed.came ls) (append_assoc old.passed.went (back_one back v.went) (back_of rest.ws) ∙ ap (λ ls. old.passed.went ++ ls) (back_more back v rest.ws));
       met_is = subst (λ (l : List (Visit L)). HasMet next l) (append_assoc ds (w ∷ []) rest.ws) rest.met_is;
     }
 
@@ -240,13 +250,28 @@ accepted_ended None (Some mid) new vs ws one came two = absurd one
 accepted_ended (Some old) None new vs ws one came two = absurd one
 accepted_ended (Some old) (Some mid) None vs ws one came two = absurd two
 
+-- by the door's record
+passed_by : {L : Type 0} (old mid new : Passed L) (vs ws : List (Visit L)) → mid ≡ passed (old.came ++ came_of vs) old.went → came_of ws ≡ came_of vs → new ≡ passed mid.came (mid.went ++ back_of ws) → ArePassed old new ws
+passed_by {L} old mid new vs ws one came two =
+    two ∙ ap (λ (p : Passed L). passed p.came (p.went ++ back_of ws)) one ∙ ap (λ ls. passed (old.came ++ ls) (old.went ++ back_of ws)) (sym came)
+
+passed_none : {L : Type 0} (old new : Passed L) → new ≡ old → ArePassed old new []
+passed_none old new same = same ∙ ap (λ ls. passed ls old.went) (sym (append-nil old.came)) ∙ ap (λ ls. passed (old.came ++ []) ls) (sym (append-nil old.went))
+
+passed_on : {L : Type 0} (old mid new : Passed L) (vs ws : List (Visit L)) → ArePassed old mid vs → ArePassed mid new ws → ArePassed old new (vs ++ ws)
+passed_on {L} old mid new vs ws one two =
+    two
+    ∙ ap (λ (p : Passed L). passed (p.came ++ came_of ws) (p.went ++ back_of ws)) one
+    ∙ ap (λ ls. passed ls ((old.went ++ back_of vs) ++ back_of ws)) (append_assoc old.came (came_of vs) (came_of ws) ∙ ap (λ ls. old.came ++ ls) (sym (came_on vs ws)))
+    ∙ ap (λ ls. passed (old.came ++ came_of (vs ++ ws)) ls) (append_assoc old.went (back_of vs) (back_of ws) ∙ ap (λ ls. old.went ++ ls) (sym (back_on vs ws)))
+
 -- ---- rounds
 
 -- none was served yet
 pub served_none : {L E : Type 0} (bears : E → ℕ) (says : ℕ → List E → List E → L → L → Served → Type 0) (port : ℕ) (began now : DoorSeen L) (list : List E) (numbers : List ℕ) (splits : ℕ) (met : Met)
-    → splits ≡ 0 → IsAmong 0 numbers → list ≡ [] → now.links ≡ began.links → now.opened_at ≡ Some port → GoesOn began.health now.health → met.clock ≡ false
+    → splits ≡ 0 → IsAmong 0 numbers → list ≡ [] → now.links ≡ began.links → now.passed ≡ began.passed → now.opened_at ≡ Some port → GoesOn began.health now.health → met.clock ≡ false
     → AreServed bears says port began now list numbers splits met
-served_none bears says port began now list numbers splits met none first empty same opened goes fine = record {
+served_none bears says port began now list numbers splits met none first empty same same_passed opened goes fine = record {
   visits = [];
   looks = λ n. list;
   are = tt;
@@ -256,6 +281,7 @@ served_none bears says port began now list numbers splits met none first empty s
   first = first;
   nothing = ap (elements_of bears 0) empty;
   taken = taken_none began.links now.links same;
+  let_by = passed_none began.passed now.passed same_passed;
   met_is = met_none met fine;
   opened = opened;
   later = goes.later;
@@ -341,11 +367,11 @@ no_more door most vs true (rose, few) = omega (arith, few)
 pub round_on : {L E : Type 0} (bears : E → ℕ) (says : ℕ → List E → List E → L → L → Served → Type 0) (port : ℕ) (began old mid new : DoorSeen L) (list first next : List E) (numbers more : List ℕ) (splits last most round : ℕ) (met after : Met)
     (done : List (Visited L)) (failed : Bool) → splits ≡ 16 * round → most ≤ 16 → AreServed bears says port began old list numbers splits met → IsPrefix list first → GoesOver bears list next numbers more
     → IsRound bears says (splits + 1) most (record { before = old; after = mid }) first next more last done failed
-    → ((vs : List (Visit L)) → done ≡ left_by vs → AreGivenBack mid.links new.links met vs after) → new.health ≡ mid.health → new.opened_at ≡ mid.opened_at
+    → ((vs : List (Visit L)) → done ≡ left_by vs → AreGivenBack mid new met vs after) → new.health ≡ mid.health → new.opened_at ≡ mid.opened_at
     → AreServed bears says port began new next more last after
 round_on {L} {E} bears says port began old mid new list first next numbers more splits last most number met after done failed full few has begins goes round back health opened =
     let looks = looks_on number has.looks next in
-    let again = returned bears says (BeginsWith first) AnyList (splits + 1) next has.visits mid.links new.links met after round.visits has.met_is round.are (back round.visits round.left) in
+    let again = returned bears says (BeginsWith first) AnyList (splits + 1) next has.visits mid new met after round.visits has.met_is round.are (back round.visits round.left) in
     let many = has.many in
     let given = round.given in
     let count = again.many in
@@ -370,6 +396,7 @@ round_on {L} {E} bears says port began old mid new list first next numbers more 
       first = goes.among 0 has.first;
       nothing = goes.adds 0 has.first ∙ has.nothing;
       taken = taken_on began.links old.links new.links has.visits again.ws has.taken (accepted_ended old.links mid.links new.links round.visits again.ws round.accepted again.came again.ended);
+      let_by = passed_on began.passed old.passed new.passed has.visits again.ws has.let_by (passed_by old.passed mid.passed new.passed round.visits again.ws round.let_in again.came again.let_out);
       met_is = again.met_is;
       opened = opened ∙ (round.port ∙ has.opened);
       later = subst (λ (h : Health). began.health.faults ≤ h.faults) (sym health) (omega (arith, later, rises));
@@ -409,14 +436,15 @@ at_port opened_at port (v ∷ vs) is = is
 
 -- the door wasn't opened
 pub run_unopened : {L E : Type 0} (bears : E → ℕ) (says : ℕ → List E → List E → L → L → Served → Type 0) (began now : DoorSeen L) (seen list : List E) (numbers : List ℕ) (splits port most : ℕ) → splits ≡ 0 → IsAmong 0 numbers → seen ≡ []
-    → now.links ≡ began.links → RoseOrFull began.health.faults now.health.faults → IsLast bears seen numbers splits list → HasServed bears says (record { before = began; after = now }) list port most ends.DoorFault
-run_unopened bears says began now seen list numbers splits port most none first empty same rose last = record {
+    → now.links ≡ began.links → now.passed ≡ began.passed → RoseOrFull began.health.faults now.health.faults → IsLast bears seen numbers splits list → HasServed bears says (record { before = began; after = now }) list port most ends.DoorFault
+run_unopened bears says began now seen list numbers splits port most none first empty same same_passed rose last = record {
   visits = [];
   looks = λ n. list;
   are = tt;
   nothing = last.adds 0 first ∙ ap (elements_of bears 0) empty;
   above = λ n more. last.above n (omega (arith, more, none));
   taken = taken_none began.links now.links same;
+  let_by = passed_none began.passed now.passed same_passed;
   came_at = tt;
   ends = (rose, tt, tt);
 }
@@ -431,6 +459,7 @@ run_none bears says door list port most empty = record {
   nothing = ap (elements_of bears 0) empty;
   above = λ n more. ap (elements_of bears n) empty;
   taken = taken_none door.links door.links refl;
+  let_by = passed_none door.passed door.passed refl;
   came_at = tt;
   ends = inr (inr refl);
 }
@@ -448,6 +477,7 @@ served_by bears says port began now seen list numbers splits most met end has la
       nothing = last.adds 0 has.first ∙ has.nothing;
       above = λ n more. last.above n (omega (arith, more, many));
       taken = has.taken;
+      let_by = has.let_by;
       came_at = at_port now.opened_at port has.visits has.opened;
       ends = ended;
     }

@@ -235,7 +235,7 @@ module _ {X : Type 0} (k : Kind X) (goes : List X → Last → Type 0) where
   ends_more rose link wanted text piece more (Some how) (inr none) = inr none
 
   -- the link's count may have risen while the request was read
-  answers_more : (rose link : Type 0) (answered : Result (List ℕ) Unanswered) (last : Bool) (result : Option Served) (piece : List ℕ) → (rose → link) → WritesAnswer rose answered last result piece
+  pub answers_more : (rose link : Type 0) (answered : Result (List ℕ) Unanswered) (last : Bool) (result : Option Served) (piece : List ℕ) → (rose → link) → WritesAnswer rose answered last result piece
       → WritesAnswer link answered last result piece
   answers_more rose link (Ok text) last result piece more writes = writes_more rose link text last result piece more writes
   answers_more rose link (Err why.ClockFault) last result piece more ends = ends_more rose link served.ClockFault clock_fault_answer piece more result ends

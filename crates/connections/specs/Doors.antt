@@ -6,7 +6,7 @@ use Rattle.connections.specs.declared.doors.ServeEnd.{ServeEnd}
 use Rattle.connections.specs.declared.doors.ServeEnd.TheVariants as ends
 use Rattle.connections.specs.declared.serving.Served.{Served}
 use Rattle.connections.specs.declared.serving.Served.TheVariants as served
-use Rattle.desk_net.specs.Doors.{Links}
+use Rattle.desk_net.specs.Doors.{Links, Passed, passed}
 
 -- a link as it came and as its connection left it, how the connection ended, and whether the link was given back
 pub record Visit (L : Type 0) : Type 0 where
@@ -30,6 +30,10 @@ abbrev pub AreTaken : {L : Type 0} → Option (Links L) → Option (Links L) →
 AreTaken None None vs = Unit {0}
 AreTaken (Some old) (Some new) vs = TakesLinks old new vs
 AreTaken _ _ vs = ⊥
+
+-- By its record the door let in the links of these connections, and let out those that were given back, in order.
+abbrev pub ArePassed : {L : Type 0} → Passed L → Passed L → List (Visit L) → Type 0
+ArePassed old new vs = new ≡ passed (old.came ++ came_of vs) (old.went ++ back_of vs)
 
 -- at least `n` links are to come, if the door's links are known
 abbrev pub HasLinks : {L : Type 0} → Option (Links L) → ℕ → Type 0

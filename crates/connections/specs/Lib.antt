@@ -1,4 +1,5 @@
 pub mod Connections
 pub mod Writing
+pub mod Crossed
 pub mod Doors
 pub mod Rounds

@@ -2,7 +2,7 @@
 use Rattle.std.specs.Prelude.{◌≡◌, ℕ, ◌+◌, ◌*◌, ◌<◌, ◌≤◌, Bool, true, false, List, [], ◌∷◌, ◌++◌, length, Option, None, Some, if◌then◌else◌}
 use mathlib.Core.List.{IsPrefix}
 use Rattle.std.specs.List.{AllByRecursion, list_any}
-use Rattle.connections.specs.Doors.{AreAtPort, AreTaken, EndsServing, HadMemory, HasLinks, IsWell, Visit, came_of, counts_as, ended_by_clock, met_after}
+use Rattle.connections.specs.Doors.{AreAtPort, ArePassed, AreTaken, EndsServing, HadMemory, HasLinks, IsWell, Visit, came_of, counts_as, ended_by_clock, met_after}
 use Rattle.connections.specs.declared.doors.Met.{Met}
 use Rattle.connections.specs.declared.doors.ServeEnd.{ServeEnd}
 use Rattle.connections.specs.declared.rounds.Visited.{Visited}
@@ -10,7 +10,7 @@ use Rattle.connections.specs.declared.serving.Served.{Served}
 use Rattle.connections.specs.declared.serving.Served.TheVariants as served
 use Rattle.desk_io.specs.Health.{IsSound, RoseOrFull}
 use Rattle.desk_io.specs.Over.{Over}
-use Rattle.desk_net.specs.Doors.{Links, PutsLast}
+use Rattle.desk_net.specs.Doors.{Links, PutsLast, passed}
 use Rattle.desk_net.specs.Seen.{DoorSeen}
 use Rattle.atomic_table.specs.Seated.{TableId}
 use Rattle.turn_lock.specs.Passes.{lock_id, pass_lock, pass_number, pass_numbers, pass_seen}
@@ -103,6 +103,7 @@ pub record IsRound {L E : Type 0} (bears : E → ℕ) (says : ℕ → List E →
   pub visits : List (Visit L)
   pub are : AreInTurns bears says (BeginsWith first) AnyList lane list visits
   pub accepted : AreAccepted door.before.links door.after.links visits
+  pub let_in : door.after.passed ≡ passed (door.before.passed.came ++ came_of visits) door.before.passed.went
   pub left : done ≡ left_by visits
   pub lanes : HasLanes numbers lane (length visits)
   pub given : splits + 1 ≡ lane + length visits
@@ -121,15 +122,25 @@ IsBack true (Some old) (Some new) went = PutsLast old new went
 IsBack false (Some old) (Some new) went = new ≡ old
 IsBack back _ _ went = ⊥
 
+-- the link, if it was given back
+abbrev pub back_one : {L : Type 0} → Bool → L → List L
+back_one true went = went ∷ []
+back_one false went = []
+
+-- The same by the door's record, too.
+pub record IsLetOut {L : Type 0} (back : Bool) (old new : DoorSeen L) (went : L) : Type 0 where
+  pub links : IsBack back old.links new.links went
+  pub let_out : new.passed ≡ passed old.passed.came (old.passed.went ++ back_one back went)
+
 -- A link was given back or dropped, and its connection's end was counted accordingly.
-abbrev pub IsGivenBack : {L : Type 0} → Option (Links L) → Option (Links L) → Met → Visited L → Met → Type 0
-IsGivenBack old new met one next = (back : Bool) × IsBack back old new one.link × (next ≡ met_after met (if back then one.served else served.OutOfMemory))
+abbrev pub IsGivenBack : {L : Type 0} → DoorSeen L → DoorSeen L → Met → Visited L → Met → Type 0
+IsGivenBack old new met one next = (back : Bool) × IsLetOut back old new one.link × (next ≡ met_after met (if back then one.served else served.OutOfMemory))
 
 -- The links were given back in order of arrival, and each connection's end was counted accordingly.
-abbrev pub AreGivenBack : {L : Type 0} → Option (Links L) → Option (Links L) → Met → List (Visit L) → Met → Type 0
+abbrev pub AreGivenBack : {L : Type 0} → DoorSeen L → DoorSeen L → Met → List (Visit L) → Met → Type 0
 AreGivenBack old new met [] next = (new ≡ old) × (next ≡ met)
 AreGivenBack {L} old new met (v ∷ vs) next =
-    (back : Bool) × (mid : Option (Links L)) × IsBack back old mid v.went × AreGivenBack mid new (met_after met (counts_as (record v { back = back }))) vs next
+    (back : Bool) × (mid : DoorSeen L) × IsLetOut back old mid v.went × AreGivenBack mid new (met_after met (counts_as (record v { back = back }))) vs next
 
 -- ---- rounds, one after another
 
@@ -151,6 +162,7 @@ pub record AreServed {L E : Type 0} (bears : E → ℕ) (says : ℕ → List E �
   pub first : IsAmong 0 numbers
   pub nothing : elements_of bears 0 list ≡ []
   pub taken : AreTaken began.links now.links visits
+  pub let_by : ArePassed began.passed now.passed visits
   pub met_is : HasMet met visits
   pub opened : now.opened_at ≡ Some port
   pub later : began.health.faults ≤ now.health.faults
@@ -173,6 +185,7 @@ pub record HasServed {L E : Type 0} (bears : E → ℕ) (says : ℕ → List E �
   pub nothing : elements_of bears 0 list ≡ []
   pub above : HasNoneAbove bears (length visits) list
   pub taken : AreTaken door.before.links door.after.links visits
+  pub let_by : ArePassed door.before.passed door.after.passed visits
   pub came_at : AreAtPort door.after.opened_at port visits
   pub ends : EndsServing (RoseOrFull door.before.health.faults door.after.health.faults) most visits end
 

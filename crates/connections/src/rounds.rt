@@ -148,7 +148,7 @@ where
 
 // Gives a link back to the door. A link that can't be given back counts as out of memory.
 fn give_one<D: Door>(door: &mut D, visited: Visited<D::Link>, met: Met) -> Met
-    ensures given { IsGivenBack (D.seen door.old).links (D.seen door.new).links met visited result }
+    ensures given { IsGivenBack (D.seen door.old) (D.seen door.new) met visited result }
     ensures port { (D.seen door.new).opened_at ≡ (D.seen door.old).opened_at }
     ensures health { (D.seen door.new).health ≡ (D.seen door.old).health }
 {
@@ -162,7 +162,7 @@ fn give_one<D: Door>(door: &mut D, visited: Visited<D::Link>, met: Met) -> Met
 // Gives links back to the door, starting with the last of the list.
 pub(crate) fn give_back<D: Door>(door: &mut D, done: &mut Vec<Visited<D::Link>>, met: Met) -> Met
     ensures back { (vs : List (Visit D.Link)) → done.old.items ≡ left_by vs
-        → AreGivenBack (D.seen door.old).links (D.seen door.new).links met vs result }
+        → AreGivenBack (D.seen door.old) (D.seen door.new) met vs result }
     ensures empty { done.new.items ≡ [] }
     ensures room { vec_capacity done.new ≡ vec_capacity done.old }
     ensures port { (D.seen door.new).opened_at ≡ (D.seen door.old).opened_at }

@@ -2,6 +2,7 @@ ghost use Rattle.std.specs.Prelude.{◌≡◌};
 ghost use Rattle.desk_io.specs.Over.{over};
 ghost use Rattle.desk_net.specs.Seen.{LinkGoesOn};
 ghost use Rattle.desk_net.specs.Streams.{unread};
+ghost use Rattle.connections.specs.Crossed.{TookTo};
 ghost use Rattle.connections.specs.Writing.{EndsAs, EndsWithout, WritesAll, WritesAnswer, WroteTo};
 
 use crate::answers::{
@@ -40,6 +41,7 @@ pub enum Served {
 // Writes the response that ends a connection. If the link fails here, the connection still ends for the same reason.
 fn end_by<N: Link>(link: &mut N, text: &[u8], served: Served) -> Served
     ensures wrote { WroteTo (over N.seen link.old link.new) (λ failed. EndsAs failed served text.now result) }
+    ensures crossed { TookTo (over N.seen link.old link.new) (λ failed. EndsAs failed served text.now result) }
     ensures link { LinkGoesOn (N.seen link.old) (N.seen link.new) }
     ensures left { unread (N.seen link.new).stream ≡ unread (N.seen link.old).stream }
 {
@@ -51,9 +53,10 @@ fn end_by<N: Link>(link: &mut N, text: &[u8], served: Served) -> Served
 }
 
 /// Ends a connection after no further request was read. Writes a response if the request was refused or memory ran
-/// out.
+/// out. The record of what crossed the link gains at most this one piece (`crossed`), over every link.
 pub fn end_without<N: Link>(link: &mut N, fault: WireFault) -> Served
     ensures wrote { WroteTo (over N.seen link.old link.new) (λ failed. EndsWithout failed fault result) }
+    ensures crossed { TookTo (over N.seen link.old link.new) (λ failed. EndsWithout failed fault result) }
     ensures link { LinkGoesOn (N.seen link.old) (N.seen link.new) }
     ensures left { unread (N.seen link.new).stream ≡ unread (N.seen link.old).stream }
 {
@@ -72,6 +75,7 @@ pub fn end_without<N: Link>(link: &mut N, fault: WireFault) -> Served
 // Writes a response. Returns how the connection ended, if writing failed or the request was the last.
 fn write_response<N: Link>(link: &mut N, bytes: &[u8], last: bool) -> Option<Served>
     ensures wrote { WroteTo (over N.seen link.old link.new) (λ failed. WritesAll failed bytes.now last result) }
+    ensures crossed { TookTo (over N.seen link.old link.new) (λ failed. WritesAll failed bytes.now last result) }
     ensures link { LinkGoesOn (N.seen link.old) (N.seen link.new) }
     ensures left { unread (N.seen link.new).stream ≡ unread (N.seen link.old).stream }
 {
@@ -84,13 +88,15 @@ fn write_response<N: Link>(link: &mut N, bytes: &[u8], last: bool) -> Option<Ser
 }
 
 /// Writes the response to a request, or an error response if there is none. Returns how the connection ended, if it
-/// did.
+/// did. The record of what crossed the link gains at most this one piece (`crossed`), over every link.
 pub fn write_answer<N: Link>(
     link: &mut N,
     answered: &Result<Text, Unanswered>,
     last: bool,
 ) -> Option<Served>
     ensures wrote { WroteTo (over N.seen link.old link.new)
+        (λ failed. WritesAnswer failed answered.now last result) }
+    ensures crossed { TookTo (over N.seen link.old link.new)
         (λ failed. WritesAnswer failed answered.now last result) }
     ensures link { LinkGoesOn (N.seen link.old) (N.seen link.new) }
     ensures left { unread (N.seen link.new).stream ≡ unread (N.seen link.old).stream }

@@ -114,10 +114,10 @@ kept_tells : (fault : Option ℕ) (opening s : State) (t : Stepped) → Tells op
 kept_tells None opening s t tells = tells
 kept_tells (Some faults) opening s t tells = unkept_tells (adds s t) opening s faults t tells
 
-made_tells : (fault : Option ℕ) (lane : ℕ) (opening s : State) (call : Call) → IsHistory opening s → Tells opening s (made_with fault lane s call)
+pub made_tells : (fault : Option ℕ) (lane : ℕ) (opening s : State) (call : Call) → IsHistory opening s → Tells opening s (made_with fault lane s call)
 made_tells fault lane opening s call history = kept_tells fault opening s (answer_call s lane call) (answer_tells opening s lane call history.legal)
 
-ticked_tells : (fault : Option ℕ) (lane : ℕ) (opening s : State) (to : ℕ) → IsHistory opening s → Tells opening s (ticked_with fault lane s to)
+pub ticked_tells : (fault : Option ℕ) (lane : ℕ) (opening s : State) (to : ℕ) → IsHistory opening s → Tells opening s (ticked_with fault lane s to)
 ticked_tells fault lane opening s to history = kept_tells fault opening s (tick_to s lane to) (tick_tells opening s lane to history.legal)
 
 -- ---- bells that are rung for a step
@@ -138,6 +138,7 @@ step_goes old new t ns tells on state notices rung = record {
   opening = on.opening;
   rows = on.rows;
   keeper = on.keeper;
+  saves = on.saves;
   listed = on.listed;
   rung = rung_by old new t ns on.opening tells state notices rung;
 }
@@ -160,6 +161,7 @@ none_goes old new on state bells = record {
   opening = on.opening;
   rows = on.rows;
   keeper = on.keeper;
+  saves = on.saves;
   listed = on.listed;
   rung = λ hung since.
       subst (λ (o : State). AreRung (told_by_all o new.state.entries) hung new.bells) (sym on.opening)

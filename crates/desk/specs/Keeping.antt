@@ -157,7 +157,7 @@ commits_after_item c lane s (item.Call at call) n = commits_after c lane s at ca
 
 -- ---- the rows
 
--- the keeper's rows, if they are known, are those of the state
+-- the rows, if they are known, are those of the state
 abbrev pub KeepsState : Option Rows → State → Type 0
 KeepsState None s = Unit {0}
 KeepsState (Some rows) s = AreKept rows s

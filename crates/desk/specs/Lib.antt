@@ -3,6 +3,7 @@ pub mod InPart
 pub mod Shown
 pub mod Keeping
 pub mod Settled
+pub mod Saved
 pub mod Opening
 pub mod Heard
 pub mod Seen

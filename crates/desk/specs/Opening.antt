@@ -1,5 +1,5 @@
 -- Which desk opens over the rows of a keeper, or why none does.
-use Rattle.std.specs.Prelude.{◌≡◌, ◌⊎◌, ◌<◌, ◌≤◌, ℕ, Bool, true, false, List, [], ◌∷◌, length, Option, None, Some, IsTrue}
+use Rattle.std.specs.Prelude.{◌≡◌, ◌⊎◌, ◌<◌, ◌≤◌, ℕ, Bool, true, false, List, [], ◌∷◌, ◌++◌, length, Option, None, Some, IsTrue}
 use Rattle.board.specs.Prepare.{Shown, shown}
 use Rattle.desk_io.specs.Planned.{after}
 use Rattle.desk_io.specs.Rows.{Rows}
@@ -8,10 +8,17 @@ use Rattle.desk_state.specs.Effects.{nothing}
 use Rattle.desk_state.specs.Events.{alert_changes}
 use Rattle.desk_state.specs.declared.change.AlertChange.{AlertChange}
 use Rattle.desk_io.specs.declared.rows.Row.{Row}
+use Rattle.keeper.specs.Account.{FailedCommit}
 use Rattle.keeper.specs.Kept.{Lists}
+use Rattle.keeper.specs.Seen.{KeeperSeen, kept_rows}
+use Rattle.keeper.specs.declared.account.AccountEntry.{AccountEntry}
+use Rattle.keeper.specs.declared.account.AccountEntry.TheVariants.{Load, Commit}
+use Rattle.keeper.specs.declared.account.Outcome.TheVariants.{Done}
+use Rattle.desk.specs.Keeping.{KeepsState}
+use Rattle.desk.specs.Saved.{Saves}
 use Rattle.keeper.specs.Order.{rising}
 use Rattle.keeper.specs.declared.keeping.KeepFault.{KeepFault}
-use Rattle.board.specs.Below.{AreKept, AreOldRows, IsDesk, IsFaultOf, are_old, RowsFault, Record, state_in, reopened}
+use Rattle.board.specs.Below.{AreKept, AreOldRows, IsDesk, IsFaultOf, are_old, RowsFault, Record, state_in, reopened, opened_changes}
 use Rattle.desk_state.specs.Sound.{IsBoard}
 use Rattle.desk_state.specs.State.{State}
 use Rattle.keeper.specs.declared.keeping.KeepFault.TheVariants as keep
@@ -121,3 +128,69 @@ pub record IsOpened (told : Option Rows) (tables : TableRows) (board : Shown) : 
   pub old : Bool
   pub loaded : AreLoaded told records old
   pub shows : board ≡ board_of tables records board.listed
+
+-- ---- what the keeper's account says
+
+-- The keeper loaded these rows, and nothing else crossed it.
+pub record IsLoad (old new : List AccountEntry) (records : List Record) (first : Bool) : Type 0 where
+  pub rows : List Row
+  pub account : new ≡ old ++ Load (Some rows) ∷ []
+  pub read : IsRead records first rows
+
+-- the changes that opening over these records makes to the rows
+abbrev pub opening_changes : TableRows → List Record → Bool → List Change
+opening_changes tables records first = opened_changes first (state_in tables records) (alert_changes nothing (state_in tables records))
+
+-- one commit of the changes, if there are any
+abbrev pub commits_of : List Change → List AccountEntry
+commits_of [] = []
+commits_of (change ∷ changes) = Commit (change ∷ changes) Done ∷ []
+
+-- The account gained a load of the rows of a desk, the commit of what opening changed, and then those that stored the
+-- history. The opening state is that of the rows' records, judged anew.
+pub record IsEntered (old new : List AccountEntry) (tables : TableRows) (opening state : State) : Type 0 where
+  pub rows : List Row
+  pub records : List Record
+  pub first : Bool
+  pub later : List AccountEntry
+  pub account : new ≡ old ++ Load (Some rows) ∷ (commits_of (opening_changes tables records first) ++ later)
+  pub read : IsRead records first rows
+  pub opens : opening ≡ reopened (state_in tables records)
+  pub saves : Saves opening later state
+
+-- the keeper loaded these rows, and nothing else was asked of it
+pub record LoadsOnly (old new : List AccountEntry) (P : List Row → Type 0) : Type 0 where
+  pub rows : List Row
+  pub account : new ≡ old ++ Load (Some rows) ∷ []
+  pub has : P rows
+
+-- no rows of a desk were loaded: the load failed, or the loaded rows have this first fault, or memory ran out over them
+abbrev pub NotRead : List AccountEntry → List AccountEntry → OpenWhy → Type 0
+NotRead old new why = (IsOfKeeper (Unit {0}) why × (new ≡ old ++ Load None ∷ [])) ⊎ LoadsOnly old new (λ rows. IsOfRows rows why)
+
+-- the commit of what opening changed failed
+abbrev pub FailsToOpen : List AccountEntry → List AccountEntry → TableRows → List Record → Bool → Type 0
+FailsToOpen old new tables records first = FailedCommit old new (opening_changes tables records first) keep.Failed
+
+-- Memory ran out before that commit, or it failed.
+abbrev pub NotSaved : List AccountEntry → List AccountEntry → TableRows → List Record → Bool → OpenWhy → Type 0
+NotSaved old new tables records first why = ((why ≡ OutOfMemory) × (new ≡ old)) ⊎ FailsToOpen old new tables records first
+
+-- that commit failed after a load of the rows of a desk
+pub record LoadsInVain (old new : List AccountEntry) (tables : TableRows) : Type 0 where
+  pub rows : List Row
+  pub records : List Record
+  pub first : Bool
+  pub read : IsRead records first rows
+  pub failed : FailsToOpen (old ++ Load (Some rows) ∷ []) new tables records first
+
+-- No desk was opened: no rows of a desk were loaded, or memory ran out, or the commit of what opening changed failed. No
+-- commit was done.
+abbrev pub NotEntered : List AccountEntry → List AccountEntry → TableRows → OpenWhy → Type 0
+NotEntered old new tables why = NotRead old new why ⊎ (IsOfKeeper (Unit {0}) why × LoadsInVain old new tables)
+
+-- The board is opened over the rows that the keeper's account says were loaded, and the rows that are kept are those
+-- of its state.
+pub record OpensOver (old new : KeeperSeen) (tables : TableRows) (board : Shown) : Type 0 where
+  pub entered : IsEntered old.account new.account tables board.opening board.state
+  pub kept : KeepsState (kept_rows new) board.state

@@ -69,7 +69,7 @@ no_tables = record {
 }
 
 abbrev no_keeper : KeeperSeen
-no_keeper = record { rows = None; commits = 0; health = record { faults = 0; sound = false } }
+no_keeper = record { rows = None; commits = 0; account = []; health = record { faults = 0; sound = false } }
 
 abbrev pub nowhere : Began
 nowhere = record { desk = record { opening = start no_tables; state = start no_tables; keeper = no_keeper; bells = []; listed = false }; items = [] }

@@ -1,19 +1,23 @@
-ghost use Rattle.std.specs.Prelude.{◌≡◌, ◌⊎◌, false, map, IfOk, IfErr, OnOk, OnErr, IsTrue, MatchResult};
+ghost use Rattle.std.specs.Prelude.{◌≡◌, ◌⊎◌, ◌++◌, ◌∷◌, [], None, Some, false, map, IfOk, IfErr, OnOk, OnErr, IsTrue, MatchResult};
 ghost use Rattle.board.specs.declared.state.Restored.{Restored as ARestored};
 ghost use Rattle.desk_io.specs.Health.{HasFailed};
 ghost use Rattle.desk_io.specs.Rows.{Rows, rows_of, changed_by};
+ghost use Rattle.keeper.specs.Account.{FailedCommit};
 ghost use Rattle.keeper.specs.Kept.{AreSame, Lists, Leads};
 ghost use Rattle.keeper.specs.Order.{rising};
-ghost use Rattle.keeper.specs.Seen.{KeeperGoesOn};
+ghost use Rattle.keeper.specs.Seen.{KeeperGoesOn, kept_rows};
+ghost use Rattle.keeper.specs.declared.account.AccountEntry.TheVariants.{Load};
+ghost use Rattle.keeper.specs.declared.keeping.KeepFault.TheVariants.{Failed as KeepFailed};
 ghost use Rattle.board.specs.Below.{AreKept, IsChecked, AreOfDesk, reopened};
 ghost use Rattle.desk_state.specs.State.{State};
 ghost use Rattle.desk.specs.Keeping.{KeepsState};
 ghost use Rattle.desk.specs.Opening.{commits_for, commits_to_open, AreAsked, MayHaveAsked, of_keeper, of_rows};
 ghost use Rattle.desk.specs.Opening.{IsOfRows, IsOfKeeper, IsWhy};
-ghost use Rattle.desk.specs.Opening.{AreLoaded, board_of, IsLeft, IsOpened, TellsRowsOf, under};
+ghost use Rattle.desk.specs.Opening.{AreLoaded, board_of, IsLeft, IsLoad, IsOpened, OpensOver, TellsRowsOf, under};
+ghost use Rattle.desk.specs.Opening.{commits_of, opening_changes, NotEntered, NotRead, NotSaved};
 ghost use Rattle.desk.specs.declared.opening.OpenWhy.TheVariants.{OutOfMemory as OpenMemory};
 
-use crate::settling::Desk;
+use crate::settling::{Desk, commit};
 use alerts::{Bell, Ringer};
 use board::{Board, Checked, Restored, RowWhy, RowsFault, check_rows};
 use desk_io::{Change, OutOfMemory, Row};
@@ -70,9 +74,14 @@ fn why_of_rows(fault: RowsFault) -> OpenWhy
     }
 }
 
+#[tactic(auto, using(keeper::proofs::SeenLaws::loaded_kept))]
 fn load<K: Keeper>(alloc: Global, keeper: &mut K) -> Result<Vec<Row>, OpenWhy>
     ensures order { IfOk result (λ rows. IsTrue (rising rows.items)) }
     ensures rows { IfOk result (λ rows. Lists (K.seen keeper.old).rows rows.items) }
+    ensures kept { IfOk result (λ rows. Lists (kept_rows (K.seen keeper.new)) rows.items) }
+    ensures account { IfOk result (λ rows. (K.seen keeper.new).account ≡ (K.seen keeper.old).account ++ Load
+        (Some rows.items) ∷ []) }
+    ensures failed { OnErr result ((K.seen keeper.new).account ≡ (K.seen keeper.old).account ++ Load None ∷ []) }
     ensures same { (K.seen keeper.new).rows ≡ (K.seen keeper.old).rows }
     ensures why { IfErr result (IsOfKeeper (HasFailed (K.seen keeper.old).health (K.seen keeper.new).health)) }
     ensures none { (K.seen keeper.new).commits ≡ (K.seen keeper.old).commits }
@@ -96,6 +105,10 @@ fn checked(alloc: Global, rows: &[Row]) -> Result<Checked, OpenWhy>
 // Loads the keeper's rows and checks them.
 fn records_of<K: Keeper>(alloc: Global, keeper: &mut K) -> Result<Checked, OpenWhy>
     ensures loaded { IfOk result (λ found. AreLoaded (K.seen keeper.old).rows found.records.items found.is_old) }
+    ensures kept { IfOk result (λ found. AreLoaded (kept_rows (K.seen keeper.new)) found.records.items found.is_old) }
+    ensures entered { IfOk result (λ found. IsLoad (K.seen keeper.old).account (K.seen keeper.new).account
+        found.records.items found.is_old) }
+    ensures unread { IfErr result (NotRead (K.seen keeper.old).account (K.seen keeper.new).account) }
     ensures desk { IfOk result (λ found. AreOfDesk found.records.items) }
     ensures same { (K.seen keeper.new).rows ≡ (K.seen keeper.old).rows }
     ensures why { IfErr result (IsWhy (K.seen keeper.old).rows
@@ -110,16 +123,20 @@ fn records_of<K: Keeper>(alloc: Global, keeper: &mut K) -> Result<Checked, OpenW
 // Stores the changes that restoring the board made to the rows. Requests no commit if there are none.
 #[tactic(auto, using(crate::proofs::Opened::leads_nowhere))]
 fn keep_changes<K: Keeper>(alloc: Global, keeper: &mut K, changes: &[Change]) -> Result<(), OpenWhy>
-    ensures ok { OnOk result (Leads (K.seen keeper.old).rows changes.now (K.seen keeper.new).rows) }
+    ensures ok { OnOk result (Leads (kept_rows (K.seen keeper.old)) changes.now (kept_rows (K.seen keeper.new))) }
     ensures err { OnErr result ((K.seen keeper.new).rows ≡ (K.seen keeper.old).rows) }
     ensures why { IfErr result (IsOfKeeper (HasFailed (K.seen keeper.old).health (K.seen keeper.new).health)) }
     ensures asked { (K.seen keeper.new).commits ≡ commits_for changes.now (K.seen keeper.old).commits }
+    ensures account { OnOk result ((K.seen keeper.new).account ≡ (K.seen keeper.old).account ++ commits_of
+        changes.now) }
+    ensures failed { OnErr result (FailedCommit (K.seen keeper.old).account (K.seen keeper.new).account changes.now
+        KeepFailed) }
     ensures on { KeeperGoesOn (K.seen keeper.old) (K.seen keeper.new) }
 {
     if changes.is_empty() {
         return Ok(());
     }
-    match keeper.commit(alloc, changes) {
+    match commit(alloc, keeper, changes) {
         Ok(()) => Ok(()),
         Err(fault) => Err(why_of_keeper(fault)),
     }
@@ -134,10 +151,15 @@ pub fn leave(_: Tables) {}
 // Stores the changes of restoring the board, then returns the board.
 fn finish<K: Keeper>(alloc: Global, keeper: &mut K, restored: Restored) -> Result<Board, OpenWhy>
     ensures board { IfOk result (λ b. b ≡ restored.board) }
-    ensures ok { OnOk result (Leads (K.seen keeper.old).rows restored.changes.items (K.seen keeper.new).rows) }
+    ensures ok { OnOk result (Leads (kept_rows (K.seen keeper.old)) restored.changes.items
+        (kept_rows (K.seen keeper.new))) }
     ensures err { OnErr result ((K.seen keeper.new).rows ≡ (K.seen keeper.old).rows) }
     ensures why { IfErr result (IsOfKeeper (HasFailed (K.seen keeper.old).health (K.seen keeper.new).health)) }
     ensures asked { (K.seen keeper.new).commits ≡ commits_for restored.changes.items (K.seen keeper.old).commits }
+    ensures account { OnOk result ((K.seen keeper.new).account ≡ (K.seen keeper.old).account ++ commits_of
+        restored.changes.items) }
+    ensures failed { OnErr result (FailedCommit (K.seen keeper.old).account (K.seen keeper.new).account
+        restored.changes.items KeepFailed) }
     ensures on { KeeperGoesOn (K.seen keeper.old) (K.seen keeper.new) }
 {
     let Restored { board, changes } = restored;
@@ -158,10 +180,10 @@ fn restore<K: Keeper, L: Ledger>(
     keeper: &mut K,
     steps: &mut Steps<L>,
 ) -> Result<Board, OpenWhy>
-    requires loaded { AreLoaded (K.seen keeper.old).rows found.records.items found.is_old }
+    requires loaded { AreLoaded (kept_rows (K.seen keeper.old)) found.records.items found.is_old }
     requires desk { AreOfDesk found.records.items }
     ensures board { IfOk result (λ b. b ≡ board_of tables found.records.items false) }
-    ensures kept { IfOk result (λ b. KeepsState (K.seen keeper.new).rows b.state) }
+    ensures kept { IfOk result (λ b. KeepsState (kept_rows (K.seen keeper.new)) b.state) }
     ensures err { OnErr result ((K.seen keeper.new).rows ≡ (K.seen keeper.old).rows) }
     ensures why { IfErr result (IsOfKeeper (HasFailed (K.seen keeper.old).health (K.seen keeper.new).health)) }
     ensures asked { IfOk result (λ b. (K.seen keeper.new).commits ≡ commits_to_open tables found.records.items
@@ -169,6 +191,10 @@ fn restore<K: Keeper, L: Ledger>(
     ensures failed { OnErr result (((K.seen keeper.new).commits ≡ (K.seen keeper.old).commits)
         ⊎ ((K.seen keeper.new).commits ≡ commits_to_open tables found.records.items found.is_old
         (K.seen keeper.old).commits)) }
+    ensures account { OnOk result ((K.seen keeper.new).account ≡ (K.seen keeper.old).account ++ commits_of
+        (opening_changes tables found.records.items found.is_old)) }
+    ensures unsaved { IfErr result (NotSaved (K.seen keeper.old).account (K.seen keeper.new).account tables
+        found.records.items found.is_old) }
     ensures on { KeeperGoesOn (K.seen keeper.old) (K.seen keeper.new) }
 {
     let Checked { records, is_old } = found;
@@ -184,10 +210,10 @@ fn open_over<K: Keeper, B: Bell, L: Ledger>(
     ringer: Ringer<B>,
     steps: &mut Steps<L>,
 ) -> Result<Desk<K, B>, OpenFault<K, B>>
-    requires loaded { AreLoaded (K.seen keeper).rows found.records.items found.is_old }
+    requires loaded { AreLoaded (kept_rows (K.seen keeper)) found.records.items found.is_old }
     requires desk { AreOfDesk found.records.items }
     ensures board { IfOk result (λ d. d.board ≡ board_of tables found.records.items false) }
-    ensures kept { IfOk result (λ d. KeepsState (K.seen d.keeper).rows d.board.state) }
+    ensures kept { IfOk result (λ d. KeepsState (kept_rows (K.seen d.keeper)) d.board.state) }
     ensures same { IfErr result (λ f. (K.seen f.keeper).rows ≡ (K.seen keeper).rows) }
     ensures why { IfErr result (λ f. IsOfKeeper (HasFailed (K.seen keeper).health (K.seen f.keeper).health) f.why) }
     ensures asked { IfOk result (λ d. (K.seen d.keeper).commits ≡ commits_to_open tables found.records.items
@@ -195,6 +221,10 @@ fn open_over<K: Keeper, B: Bell, L: Ledger>(
     ensures failed { IfErr result (λ f. ((K.seen f.keeper).commits ≡ (K.seen keeper).commits)
         ⊎ ((K.seen f.keeper).commits ≡ commits_to_open tables found.records.items found.is_old
         (K.seen keeper).commits)) }
+    ensures account { IfOk result (λ d. (K.seen d.keeper).account ≡ (K.seen keeper).account ++ commits_of
+        (opening_changes tables found.records.items found.is_old)) }
+    ensures unsaved { IfErr result (λ f. NotSaved (K.seen keeper).account (K.seen f.keeper).account tables
+        found.records.items found.is_old f.why) }
     ensures on { MatchResult result (λ d. KeeperGoesOn (K.seen keeper) (K.seen d.keeper))
         (λ f. KeeperGoesOn (K.seen keeper) (K.seen f.keeper)) }
     ensures ringer { MatchResult result (λ d. d.ringer ≡ ringer) (λ f. f.ringer ≡ ringer) }
@@ -222,7 +252,7 @@ fn open_desk<K: Keeper, B: Bell, L: Ledger>(
     steps: &mut Steps<L>,
 ) -> Result<Desk<K, B>, OpenFault<K, B>>
     ensures opened { IfOk result (λ d. IsOpened (K.seen keeper).rows tables d.board) }
-    ensures kept { IfOk result (λ d. KeepsState (K.seen d.keeper).rows d.board.state) }
+    ensures kept { IfOk result (λ d. OpensOver (K.seen keeper) (K.seen d.keeper) tables d.board) }
     ensures same { IfErr result (λ f. (K.seen f.keeper).rows ≡ (K.seen keeper).rows) }
     ensures why { IfErr result (λ f. IsWhy (K.seen keeper).rows
         (HasFailed (K.seen keeper).health (K.seen f.keeper).health) f.why) }
@@ -230,6 +260,8 @@ fn open_desk<K: Keeper, B: Bell, L: Ledger>(
         (K.seen d.keeper).commits) }
     ensures failed { IfErr result (λ f. MayHaveAsked (K.seen keeper).rows tables (K.seen keeper).commits
         (K.seen f.keeper).commits) }
+    ensures unentered { IfErr result (λ f. NotEntered (K.seen keeper).account (K.seen f.keeper).account tables
+        f.why) }
     ensures on { MatchResult result (λ d. KeeperGoesOn (K.seen keeper) (K.seen d.keeper))
         (λ f. KeeperGoesOn (K.seen keeper) (K.seen f.keeper)) }
     ensures ringer { MatchResult result (λ d. d.ringer ≡ ringer) (λ f. f.ringer ≡ ringer) }
@@ -261,7 +293,7 @@ pub fn open<K: Keeper, B: Bell, L: Ledger>(
     steps: &mut Steps<L>,
 ) -> Result<Desk<K, B>, OpenFault<K, B>>
     ensures opened { IfOk result (λ d. IsOpened (K.seen keeper).rows tables d.board) }
-    ensures kept { IfOk result (λ d. KeepsState (K.seen d.keeper).rows d.board.state) }
+    ensures kept { IfOk result (λ d. OpensOver (K.seen keeper) (K.seen d.keeper) tables d.board) }
     ensures same { IfErr result (λ f. (K.seen f.keeper).rows ≡ (K.seen keeper).rows) }
     ensures why { IfErr result (λ f. IsWhy (K.seen keeper).rows
         (HasFailed (K.seen keeper).health (K.seen f.keeper).health) f.why) }
@@ -271,6 +303,9 @@ pub fn open<K: Keeper, B: Bell, L: Ledger>(
     // If no desk is opened, at most that commit was requested.
     ensures failed { IfErr result (λ f. MayHaveAsked (K.seen keeper).rows tables (K.seen keeper).commits
         (K.seen f.keeper).commits) }
+    // Its account has no commit that was done, and tells why.
+    ensures unentered { IfErr result (λ f. NotEntered (K.seen keeper).account (K.seen f.keeper).account tables
+        f.why) }
     ensures on { MatchResult result (λ d. KeeperGoesOn (K.seen keeper) (K.seen d.keeper))
         (λ f. KeeperGoesOn (K.seen keeper) (K.seen f.keeper)) }
     ensures ringer { MatchResult result (λ d. d.ringer ≡ ringer) (λ f. f.ringer ≡ ringer) }

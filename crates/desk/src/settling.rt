@@ -1,10 +1,15 @@
-ghost use Rattle.std.specs.Prelude.{◌≡◌, ◌≤◌, [], None, Some, false, is_some, IfOk, IfSome, OnErr};
+ghost use Rattle.std.specs.Prelude.{◌≡◌, ◌≤◌, [], None, Some, false, is_some, IfOk, IfSome, OnErr, OnOk};
 ghost use Rattle.asks.specs.Ranges.{ReplyHasMoment};
 ghost use Rattle.alerts.specs.Ringing.{AreRung, hung_all};
 ghost use Rattle.board.specs.Prepare.{KeepsRows, installed};
+ghost use Rattle.desk_io.specs.Health.{HasCause};
 ghost use Rattle.desk_io.specs.Planned.{after};
-ghost use Rattle.keeper.specs.Seen.{KeeperGoesOn};
+ghost use Rattle.keeper.specs.Account.{AddsCommit, FailedCommit};
+ghost use Rattle.keeper.specs.Kept.{Leads};
+ghost use Rattle.keeper.specs.Seen.{KeeperGoesOn, kept_rows};
+ghost use Rattle.keeper.specs.declared.keeping.KeepFault.TheVariants.{Failed as KeepFailed};
 ghost use Rattle.desk.specs.Keeping.{asked_if, kept_or, CountedOnce, KeptUnless};
+ghost use Rattle.desk.specs.Saved.{DoneUnless};
 ghost use Rattle.desk.specs.Seen.{desk_seen, StepGoesOn};
 ghost use Rattle.desk.specs.Settled.{stepped_by, IsSettled};
 
@@ -48,22 +53,43 @@ fn told(before: u64, faults: u64) -> Result<Option<u64>, OutOfMemory>
     }
 }
 
+/// Asks the keeper to make all changes, or none of them.
+pub(crate) fn commit<K: Keeper>(
+    alloc: Global,
+    keeper: &mut K,
+    changes: &[Change],
+) -> Result<(), KeepFault>
+    ensures ok { OnOk result (Leads (kept_rows (K.seen keeper.old)) changes.now (kept_rows (K.seen keeper.new))) }
+    ensures err { OnErr result (kept_rows (K.seen keeper.new) ≡ kept_rows (K.seen keeper.old)) }
+    ensures same { OnErr result ((K.seen keeper.new).rows ≡ (K.seen keeper.old).rows) }
+    ensures one { (K.seen keeper.new).commits ≡ after (K.seen keeper.old).commits }
+    ensures account { AddsCommit (K.seen keeper.old).account (K.seen keeper.new).account changes.now result }
+    ensures on { KeeperGoesOn (K.seen keeper.old) (K.seen keeper.new) }
+    ensures cause { HasCause KeepFailed (K.seen keeper.old).health (K.seen keeper.new).health result }
+{
+    keeper.commit(alloc, changes)
+}
+
 // Stores all changes, or none of them. Returns the keeper's count of faults if it failed, otherwise none.
 fn keep<K: Keeper>(
     alloc: Global,
     keeper: &mut K,
     changes: &[Change],
 ) -> Result<Option<u64>, OutOfMemory>
-    ensures rows { IfOk result (λ fault. KeptUnless fault (K.seen keeper.old).rows changes.now
-        (K.seen keeper.new).rows) }
-    ensures same { OnErr result ((K.seen keeper.new).rows ≡ (K.seen keeper.old).rows) }
+    ensures rows { IfOk result (λ fault. KeptUnless fault (kept_rows (K.seen keeper.old)) changes.now
+        (kept_rows (K.seen keeper.new))) }
+    ensures same { OnErr result (kept_rows (K.seen keeper.new) ≡ kept_rows (K.seen keeper.old)) }
     ensures count { IfOk result (λ fault. CountedOnce (K.seen keeper.old).health.faults fault
         (K.seen keeper.new).health.faults) }
     ensures asked { (K.seen keeper.new).commits ≡ after (K.seen keeper.old).commits }
+    ensures done { IfOk result (λ fault. DoneUnless fault (K.seen keeper.old).account changes.now
+        (K.seen keeper.new).account) }
+    ensures failed { OnErr result (FailedCommit (K.seen keeper.old).account (K.seen keeper.new).account
+        changes.now KeepFailed) }
     ensures on { KeeperGoesOn (K.seen keeper.old) (K.seen keeper.new) }
 {
     let before = keeper.faults();
-    match keeper.commit(alloc, changes) {
+    match commit(alloc, keeper, changes) {
         Ok(()) => Ok(None),
         Err(KeepFault::Failed) => told(before, keeper.faults()),
         Err(KeepFault::OutOfMemory) => Err(OutOfMemory),

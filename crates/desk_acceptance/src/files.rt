@@ -1,37 +1,80 @@
-use crate::lines::{commit, gives};
+use crate::steps::{Step, takes};
 use desk_io::OutOfMemory;
 use keeper::{KeepFault, Keeper};
-use sqlite::Connection;
+use sqlite::{Alter, Connection};
 use sqlite_keeper::SqliteKeeper;
+use std::alloc::Global;
 use std::fs;
 use std::test::Fail;
 
-// Removes a file of SQLite and its log, where they are there.
-fn clear(rt: HostRuntime, name: &str) -> Result<(), OutOfMemory> {
+// Removes the log of a file of SQLite, if there is one.
+fn clear_log(rt: HostRuntime, name: &str) -> Result<(), OutOfMemory> {
     let log = format!(in rt.alloc(); "{name}-wal")?;
-    let _ = fs::remove_file(&rt, name);
     let _ = fs::remove_file(&rt, log.as_str());
     Ok(())
 }
 
-fn keeper_at(rt: HostRuntime, name: &str) -> Result<SqliteKeeper, OutOfMemory> {
-    Ok(SqliteKeeper::new(rt, String::from_str(rt.alloc(), name)?))
+// Removes a file of SQLite and its log, if they are there.
+fn clear(rt: HostRuntime, name: &str) -> Result<(), OutOfMemory> {
+    let _ = fs::remove_file(&rt, name);
+    clear_log(rt, name)
 }
 
-// Whether a new keeper finds the first rows, and the second ones after those changes. Then it lets the file go.
-fn leads(
+// Opens keepers over files. The functions below know a keeper by this trait alone, so that only its impl pays for what
+// SQLite's contracts say.
+trait Opens {
+    type Opened: Keeper + Drop;
+
+    // A new keeper over the file of this name.
+    fn open(&self, alloc: Global, name: &str) -> Result<Self::Opened, OutOfMemory>;
+
+    // Closes the file at the end of a run. Returns whether it was opened, and the file alone now has all rows.
+    fn leave(&self, keeper: Self::Opened) -> Result<bool, KeepFault>;
+}
+
+#[derive(Drop)]
+struct Files {
     rt: HostRuntime,
-    name: &str,
-    before: &str,
-    changes: &str,
-    lines: &str,
-) -> Result<bool, KeepFault> {
-    let mut keeper = keeper_at(rt, name)?;
-    if !gives(rt.alloc(), &mut keeper, before)? {
-        return Ok(false);
+}
+
+impl Opens for Files {
+    type Opened = SqliteKeeper;
+
+    fn open(&self, alloc: Global, name: &str) -> Result<SqliteKeeper, OutOfMemory> {
+        Ok(SqliteKeeper::new(self.rt, String::from_str(alloc, name)?))
     }
-    commit(rt.alloc(), &mut keeper, changes)?;
-    Ok(gives(rt.alloc(), &mut keeper, lines)? && keeper.faults() == 0)
+
+    fn leave(&self, keeper: SqliteKeeper) -> Result<bool, KeepFault> {
+        Ok(keeper.leave()?.is_some())
+    }
+}
+
+// Whether a new keeper over a file takes these steps. It closes the file at the end.
+fn takes_at<O: Opens>(
+    files: &O,
+    alloc: Global,
+    name: &str,
+    steps: &[Step<'_>],
+) -> Result<bool, KeepFault> {
+    let mut keeper = files.open(alloc, name)?;
+    takes(alloc, &mut keeper, steps)
+}
+
+// The same, and then it leaves the file.
+fn leaves_at<O: Opens>(
+    files: &O,
+    alloc: Global,
+    name: &str,
+    steps: &[Step<'_>],
+) -> Result<bool, KeepFault> {
+    let mut keeper = files.open(alloc, name)?;
+    let taken = takes(alloc, &mut keeper, steps);
+    let left = files.leave(keeper);
+    Ok(taken? && left?)
+}
+
+fn file_takes(rt: HostRuntime, name: &str, steps: &[Step<'_>]) -> Result<bool, KeepFault> {
+    takes_at(&Files { rt }, rt.alloc(), name, steps)
 }
 
 const FIRST_ROWS: &str = "0 0 {\"a\":1}\n1 4 four\n1 9 n\u{e4}chste\n3 2 two\n";
@@ -51,83 +94,78 @@ fn rows_in_a_file_are_found_by_the_next_keeper(rt: HostRuntime) -> Result<(), Fa
         ),
         (after, "", after),
     ] {
-        assert!(rt; leads(rt, name, before, changes, lines)?, "{changes}");
+        let steps = [
+            Step::Gives(before),
+            Step::Commits(changes),
+            Step::Gives(lines),
+        ];
+        assert!(rt; file_takes(rt, name, &steps)?, "{changes}");
     }
     clear(rt, name)?;
     Ok(())
-}
-
-// Whether a keeper that is let go at the end of a run leaves all its rows in the file: they are found without the log.
-fn leaves_all(rt: HostRuntime, name: &str) -> Result<bool, KeepFault> {
-    let mut keeper = keeper_at(rt, name)?;
-    if !gives(rt.alloc(), &mut keeper, "")? {
-        return Ok(false);
-    }
-    commit(rt.alloc(), &mut keeper, FIRST_ROWS)?;
-    let left = keeper.leave()?.is_some();
-    let log = format!(in rt.alloc(); "{name}-wal")?;
-    let _ = fs::remove_file(&rt, log.as_str());
-    let mut next = keeper_at(rt, name)?;
-    Ok(left && gives(rt.alloc(), &mut next, FIRST_ROWS)?)
 }
 
 #[test]
 fn a_file_that_is_left_has_all_without_its_log(rt: HostRuntime) -> Result<(), Fail> {
     let name = "desk_acceptance_left";
     clear(rt, name)?;
-    assert!(rt; leaves_all(rt, name)?);
+    let steps = [Step::Gives(""), Step::Commits(FIRST_ROWS)];
+    assert!(rt; leaves_at(&Files { rt }, rt.alloc(), name, &steps)?);
+    clear_log(rt, name)?;
+    assert!(rt; file_takes(rt, name, &[Step::Gives(FIRST_ROWS)])?);
     clear(rt, name)?;
     Ok(())
 }
 
-// Whether a commit before a load and one of a row that can't stand in the file fail, and change nothing.
-fn refuses(rt: HostRuntime, name: &str) -> Result<bool, KeepFault> {
-    let alloc = rt.alloc();
-    let mut keeper = keeper_at(rt, name)?;
-    let early = commit(alloc, &mut keeper, "1 4 four\n");
-    if early != Err(KeepFault::Failed) || keeper.faults() != 1 || !gives(alloc, &mut keeper, "")? {
-        return Ok(false);
-    }
-    let past = commit(alloc, &mut keeper, "1 4 four\n1 9223372036854775808 past\n");
-    Ok(past == Err(KeepFault::Failed) && gives(alloc, &mut keeper, "")? && keeper.faults() == 2)
-}
+const FOUR: &str = "1 4 four\n";
 
+// No commit is made before a load, nor that of a row that can't stand in the file.
 #[test]
 fn commits_that_cant_be_made_are_counted(rt: HostRuntime) -> Result<(), Fail> {
     let name = "desk_acceptance_refused";
     clear(rt, name)?;
-    assert!(rt; refuses(rt, name)?);
-    assert!(rt; leads(rt, name, "", "1 4 four\n", "1 4 four\n")?);
+    let steps = [
+        Step::FailsToCommit(FOUR),
+        Step::Gives(""),
+        Step::FailsToCommit("1 4 four\n1 9223372036854775808 past\n"),
+        Step::Gives(""),
+    ];
+    assert!(rt; file_takes(rt, name, &steps)?);
+    let steps = [Step::Gives(""), Step::Commits(FOUR), Step::Gives(FOUR)];
+    assert!(rt; file_takes(rt, name, &steps)?);
     clear(rt, name)?;
     Ok(())
 }
 
 // Whether a second keeper can't load the file of one that holds it, which goes on.
-fn is_shut_out(rt: HostRuntime, name: &str) -> Result<bool, KeepFault> {
-    let alloc = rt.alloc();
-    let mut first = keeper_at(rt, name)?;
-    if !gives(alloc, &mut first, "")? {
-        return Ok(false);
-    }
-    let shut = fails_to_load(rt, name)?;
-    commit(alloc, &mut first, "1 4 four\n")?;
-    Ok(shut && gives(alloc, &mut first, "1 4 four\n")? && first.faults() == 0)
+fn shuts_out<O: Opens>(
+    files: &O,
+    alloc: Global,
+    name: &str,
+    first: &mut O::Opened,
+) -> Result<bool, KeepFault> {
+    let steps = [Step::Commits(FOUR), Step::Gives(FOUR)];
+    Ok(
+        takes(alloc, first, &[Step::Gives("")])?
+            && takes_at(files, alloc, name, &[Step::FailsToLoad])?
+            && takes(alloc, first, &steps)?,
+    )
+}
+
+fn is_shut_out<O: Opens>(files: &O, alloc: Global, name: &str) -> Result<bool, KeepFault> {
+    let mut first = files.open(alloc, name)?;
+    shuts_out(files, alloc, name, &mut first)
 }
 
 #[test]
 fn a_file_has_one_keeper_at_a_time(rt: HostRuntime) -> Result<(), Fail> {
     let name = "desk_acceptance_held";
     clear(rt, name)?;
-    assert!(rt; is_shut_out(rt, name)?);
-    assert!(rt; leads(rt, name, "1 4 four\n", "1 4\n", "")?);
+    assert!(rt; is_shut_out(&Files { rt }, rt.alloc(), name)?);
+    let steps = [Step::Gives(FOUR), Step::Commits("1 4\n"), Step::Gives("")];
+    assert!(rt; file_takes(rt, name, &steps)?);
     clear(rt, name)?;
     Ok(())
-}
-
-fn fails_to_load(rt: HostRuntime, name: &str) -> Result<bool, KeepFault> {
-    let mut keeper = keeper_at(rt, name)?;
-    let loaded = gives(rt.alloc(), &mut keeper, "");
-    Ok(loaded == Err(KeepFault::Failed) && keeper.faults() == 1)
 }
 
 #[test]
@@ -136,18 +174,22 @@ fn a_file_that_is_no_database_is_a_fault(rt: HostRuntime) -> Result<(), Fail> {
     let text = b"The rows of the desk don't stand in this file, and it isn't touched.\n";
     clear(rt, name)?;
     fs::write(&rt, name, text.as_slice())?;
-    let fails = fails_to_load(rt, name)?;
+    let fails = file_takes(rt, name, &[Step::FailsToLoad])?;
     let left = fs::read(&rt, name)?;
     clear(rt, name)?;
     assert!(rt; fails && left.as_slice() == text.as_slice());
     Ok(())
 }
 
+fn execute<S: Alter>(conn: &mut Connection<S>, statement: &str) -> Result<(), sqlite::Error> {
+    conn.execute(statement, &[])?;
+    Ok(())
+}
+
 // Makes a file of SQLite by one statement.
 fn make(rt: HostRuntime, name: &str, statement: &str) -> Result<(), sqlite::Error> {
     let mut conn = Connection::open(&rt, name)?;
-    conn.execute(statement, &[])?;
-    Ok(())
+    execute(&mut conn, statement)
 }
 
 const TABLE: &str =
@@ -158,7 +200,8 @@ fn a_table_with_another_text_is_a_fault(rt: HostRuntime) -> Result<(), Fail> {
     let name = "desk_acceptance_table";
     clear(rt, name)?;
     make(rt, name, TABLE)?;
-    assert!(rt; leads(rt, name, "", "1 4 four\n", "1 4 four\n")?);
+    let steps = [Step::Gives(""), Step::Commits(FOUR), Step::Gives(FOUR)];
+    assert!(rt; file_takes(rt, name, &steps)?);
     for statement in [
         "CREATE TABLE kept(kind INTEGER, key INTEGER, body BLOB)",
         "CREATE TABLE kept (kind INTEGER NOT NULL, key INTEGER NOT NULL, body TEXT NOT NULL, PRIMARY KEY (kind, key))",
@@ -166,7 +209,7 @@ fn a_table_with_another_text_is_a_fault(rt: HostRuntime) -> Result<(), Fail> {
     ] {
         clear(rt, name)?;
         make(rt, name, statement)?;
-        assert!(rt; fails_to_load(rt, name)?, "{statement}");
+        assert!(rt; file_takes(rt, name, &[Step::FailsToLoad])?, "{statement}");
     }
     clear(rt, name)?;
     Ok(())

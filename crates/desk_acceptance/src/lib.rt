@@ -1,6 +1,6 @@
-//! Tests of what no command shows of a desk: its board's history and how many plans a step judges at most; the text of
-//! a plan; plans and lines as JSON; keepers of rows, in memory and over a file, and rows both ways; lanes that run at
-//! once; the statuses of a desk that holds as much as it may; and connections over a desk that is lent, which the
+//! Tests of what no command shows of a desk: its board's calls and how many plans a step judges at most; the text of a
+//! plan; which texts are replies; copies; keepers of rows, in memory and over a file, and rows both ways; lanes that run
+//! at once; the statuses of a desk that holds as much as it may; and connections over a desk that is lent, which the
 //! program never lends.
 #![tactic(auto)]
 
@@ -17,12 +17,6 @@ mod few;
 #[cfg(test)]
 mod files;
 #[cfg(test)]
-mod gathering;
-#[cfg(test)]
-mod hostile;
-#[cfg(test)]
-mod line_replies;
-#[cfg(test)]
 mod lines;
 #[cfg(test)]
 mod links;
@@ -31,9 +25,9 @@ mod meeting;
 #[cfg(test)]
 mod memory;
 #[cfg(test)]
-mod orders;
+mod memory_desk;
 #[cfg(test)]
-mod planned_lines;
+mod orders;
 #[cfg(test)]
 mod plans;
 #[cfg(test)]
@@ -41,11 +35,11 @@ mod replies;
 #[cfg(test)]
 mod rows;
 #[cfg(test)]
-mod shift_lines;
-#[cfg(test)]
 mod sixteen;
 #[cfg(test)]
 mod statuses;
+#[cfg(test)]
+mod steps;
 #[cfg(test)]
 mod texts;
 #[cfg(test)]

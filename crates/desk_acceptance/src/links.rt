@@ -1,6 +1,7 @@
 ghost use Rattle.std.specs.Prelude.{◌≡◌, ◌<◌};
 
-use alerts::{MemoryBell, Ringer};
+use crate::memory_desk::memory_desk;
+use alerts::MemoryBell;
 use connections::Served;
 use desk::{Board, Desk};
 use desk_io::OutOfMemory;
@@ -66,11 +67,7 @@ fn serve<R: Wait>(
     link: &mut MemoryLink,
     clock: &mut MemoryClock,
 ) -> Served {
-    let mut desk = Desk {
-        board,
-        keeper: MemoryKeeper::new(Vec::new(alloc), Vec::new(alloc)),
-        ringer: Ringer::none(alloc),
-    };
+    let mut desk = memory_desk(alloc, board);
     serve_lent::<R, Brand>(rt, alloc, &mut desk, link, clock, Blank::new(1))
 }
 
@@ -134,12 +131,15 @@ fn long_body(alloc: Global) -> Result<Vec<u8>, OutOfMemory> {
 }
 
 #[test]
-fn the_longest_head_and_the_longest_body_are_read(rt: HostRuntime) -> Result<(), Fail> {
-    let alloc = rt.alloc();
-    let head = long_head(alloc)?;
-    assert!(rt; head.len() == 16_384);
-    assert!(rt; is_answered(&rt, alloc, &head, 4_096, BOARD_SEEN)?);
-    let call = long_body(alloc)?;
-    assert!(rt; is_answered(&rt, alloc, &call, 4_096, CALL_REFUSED)?);
+fn the_longest_head_is_read(rt: HostRuntime) -> Result<(), Fail> {
+    let head = long_head(rt.alloc())?;
+    assert!(rt; is_answered(&rt, rt.alloc(), &head, 4_096, BOARD_SEEN)?);
+    Ok(())
+}
+
+#[test]
+fn the_longest_body_is_read(rt: HostRuntime) -> Result<(), Fail> {
+    let call = long_body(rt.alloc())?;
+    assert!(rt; is_answered(&rt, rt.alloc(), &call, 4_096, CALL_REFUSED)?);
     Ok(())
 }

@@ -1,45 +1,34 @@
+use crate::waiting::wait_for;
 use desk::Gate;
-use std::sync::atomic::{AtomicBool, Ordering};
+use std::sync::atomic::{AtomicBool, AtomicU64, Ordering};
 
-// How often a flag is looked at before a lane goes on without it.
-const MOST_TURNS: u64 = 100_000_000;
-
-/// A gate at which the first items of two lanes meet, and the second item of one of them waits until the third item of
-/// the other is done.
+/// A gate at which the first items of so many lanes wait for each other. Then the second item of the held lane, if it
+/// is lane 1 or 2, waits until the third item of the other is done.
 #[derive(Drop)]
 pub struct Meeting {
+    lanes: u64,
     held: u32,
-    one_came: AtomicBool,
-    two_came: AtomicBool,
-    one_is_done: AtomicBool,
-    two_is_done: AtomicBool,
+    came: AtomicU64,
+    one_is_done: AtomicU64,
+    two_is_done: AtomicU64,
     gave_up: AtomicBool,
 }
 
 impl Meeting {
-    pub fn new(held: u32) -> Meeting {
+    pub fn new(lanes: u64, held: u32) -> Meeting {
         Meeting {
+            lanes,
             held,
-            one_came: AtomicBool::new(false),
-            two_came: AtomicBool::new(false),
-            one_is_done: AtomicBool::new(false),
-            two_is_done: AtomicBool::new(false),
+            came: AtomicU64::new(0),
+            one_is_done: AtomicU64::new(0),
+            two_is_done: AtomicU64::new(0),
             gave_up: AtomicBool::new(false),
         }
     }
 
-    /// Whether a lane went on though the other hadn't come so far.
+    /// Whether a lane went on though the others hadn't come so far.
     pub fn gave_up(&self) -> bool {
         self.gave_up.load(Ordering::SeqCst)
-    }
-
-    fn wait(&self, flag: &AtomicBool) {
-        for _ in 0..MOST_TURNS {
-            if flag.load(Ordering::SeqCst) {
-                return;
-            }
-        }
-        self.gave_up.store(true, Ordering::SeqCst);
     }
 }
 
@@ -47,27 +36,28 @@ impl Gate for Meeting {
     fn expects(&self, _items: u64) {}
 
     fn before(&self, lane: u32, line: u32) {
-        let (own, other, other_is_done) = if lane == 1 {
-            (&self.one_came, &self.two_came, &self.two_is_done)
-        } else {
-            (&self.two_came, &self.one_came, &self.one_is_done)
-        };
         if line == 1 {
-            own.store(true, Ordering::SeqCst);
-            self.wait(other);
+            self.came.fetch_add(1, Ordering::SeqCst);
+            wait_for(&self.came, self.lanes, &self.gave_up);
         }
         if line == 2 && lane == self.held {
-            self.wait(other_is_done);
+            let other = if lane == 1 {
+                &self.two_is_done
+            } else {
+                &self.one_is_done
+            };
+            wait_for(other, 1, &self.gave_up);
         }
     }
 
     fn after(&self, lane: u32, line: u32) {
         if line == 3 {
-            if lane == 1 {
-                self.one_is_done.store(true, Ordering::SeqCst);
+            let own = if lane == 1 {
+                &self.one_is_done
             } else {
-                self.two_is_done.store(true, Ordering::SeqCst);
-            }
+                &self.two_is_done
+            };
+            own.store(1, Ordering::SeqCst);
         }
     }
 }

@@ -3,9 +3,10 @@ ghost use Rattle.std.specs.List.{list_any};
 ghost use Rattle.desk_io.specs.Rows.{is_row};
 ghost use Rattle.keeper.specs.Order.{AreApart};
 
-use crate::lines::{commit, gives, rows_in};
+use crate::lines::rows_in;
+use crate::steps::{Step, takes};
 use desk_io::Row;
-use keeper::{KeepFault, Keeper, MemoryKeeper};
+use keeper::{KeepFault, MemoryKeeper};
 use std::alloc::Global;
 use std::test::Fail;
 
@@ -45,9 +46,15 @@ fn keeper_of(alloc: Global, lines: &str, fail: &[u64]) -> Result<MemoryKeeper, K
     }
 }
 
-fn begins_with(alloc: Global, first: &str, lines: &str) -> Result<bool, KeepFault> {
-    let mut keeper = keeper_of(alloc, first, &[])?;
-    gives(alloc, &mut keeper, lines)
+// Whether a keeper of some rows, whose commits of those numbers fail, takes these steps.
+fn takes_from(
+    alloc: Global,
+    first: &str,
+    fail: &[u64],
+    steps: &[Step<'_>],
+) -> Result<bool, KeepFault> {
+    let mut keeper = keeper_of(alloc, first, fail)?;
+    takes(alloc, &mut keeper, steps)
 }
 
 #[test]
@@ -63,16 +70,12 @@ fn a_keeper_begins_with_rows_in_any_order(rt: HostRuntime) -> Result<(), Fail> {
             "1 2 a\n1 18446744073709551615 b\n255 0 the rest\n255 1 c\n",
         ),
     ] {
-        assert!(rt; begins_with(rt.alloc(), first, lines)?, "{first}");
+        assert!(rt;
+            takes_from(rt.alloc(), first, &[], &[Step::Gives(lines)])?,
+            "{first}"
+        );
     }
     Ok(())
-}
-
-// Whether changes lead from `KEPT` to those rows.
-fn lead_to(alloc: Global, changes: &str, lines: &str) -> Result<bool, KeepFault> {
-    let mut keeper = keeper_of(alloc, KEPT, &[])?;
-    commit(alloc, &mut keeper, changes)?;
-    Ok(gives(alloc, &mut keeper, lines)? && keeper.faults() == 0)
 }
 
 #[test]
@@ -95,30 +98,25 @@ fn changes_of_rows_are_made_each_in_its_turn(rt: HostRuntime) -> Result<(), Fail
             "0 0 meta\n1 4 four\n1 9 back\n2 7 for good\n3 2 two\n",
         ),
     ] {
-        assert!(rt; lead_to(rt.alloc(), changes, lines)?, "{changes}");
+        let steps = [Step::Commits(changes), Step::Gives(lines)];
+        assert!(rt; takes_from(rt.alloc(), KEPT, &[], &steps)?, "{changes}");
     }
     Ok(())
 }
 
-// Whether a keeper of nothing whose second commit fails goes through these steps.
-fn fails_once(alloc: Global) -> Result<bool, KeepFault> {
-    let two = "1 4 four\n1 9 nine\n";
-    let mut keeper = keeper_of(alloc, "", &[1])?;
-    for (changes, answer, lines, faults) in [
-        (two, Ok(()), two, 0),
-        ("1 4\n2 2 two\n", Err(KeepFault::Failed), two, 1),
-        ("1 4\n2 2 two\n", Ok(()), "1 9 nine\n2 2 two\n", 1),
-    ] {
-        let answered = commit(alloc, &mut keeper, changes);
-        if answered != answer || !gives(alloc, &mut keeper, lines)? || keeper.faults() != faults {
-            return Ok(false);
-        }
-    }
-    Ok(true)
-}
+const TWO_ROWS: &str = "1 4 four\n1 9 nine\n";
 
+// Its second commit fails.
 #[test]
 fn a_commit_that_fails_is_counted_and_changes_no_row(rt: HostRuntime) -> Result<(), Fail> {
-    assert!(rt; fails_once(rt.alloc())?);
+    let steps = [
+        Step::Commits(TWO_ROWS),
+        Step::Gives(TWO_ROWS),
+        Step::FailsToCommit("1 4\n2 2 two\n"),
+        Step::Gives(TWO_ROWS),
+        Step::Commits("1 4\n2 2 two\n"),
+        Step::Gives("1 9 nine\n2 2 two\n"),
+    ];
+    assert!(rt; takes_from(rt.alloc(), "", &[1], &steps)?);
     Ok(())
 }

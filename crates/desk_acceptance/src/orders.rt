@@ -1,14 +1,16 @@
-ghost use Rattle.std.specs.Prelude.{◌≡◌, ◌≤◌, IfOk, length};
+ghost use Rattle.std.specs.Prelude.{IfOk};
 ghost use Rattle.std.specs.List.{AllByRecursion};
 ghost use Rattle.desk.specs.Merge.{IsFresh};
 
 use crate::counting::Counting;
 use crate::meeting::Meeting;
-use alerts::{MemoryBell, Ringer};
+use crate::memory_desk::{listed_board, memory_desk};
+use alerts::{Bell, MemoryBell};
 use desk::{Board, Desk, Finished, Gate, Lane, run_lanes};
 use desk_io::OutOfMemory;
 use desk_state::What;
-use keeper::MemoryKeeper;
+use keeper::{Keeper, MemoryKeeper};
+use ops_tables::Tables;
 use small_airline::{script_of, small_tables};
 use std::alloc::Global;
 use std::sync::Wait;
@@ -39,12 +41,19 @@ const REPEAT: &str = r#"F1 1 17:00 "do":"admit","text":"METAR KJFK 121651Z 10SM 
 F1 1 17:00 "do":"admit","text":"METAR KJFK 121651Z 10SM CLR RMK 1"
 "#;
 
-fn two_lanes(alloc: Global, one: &str) -> Result<Vec<Lane>, OutOfMemory>
-    ensures fresh { IfOk result (λ v. AllByRecursion IsFresh v.items) }
-    ensures few { IfOk result (λ v. length v.items ≤ 16) }
+fn lane_of(alloc: Global, lines: &str) -> Result<Lane, OutOfMemory>
+    ensures { IfOk result IsFresh }
 {
-    let one = Lane::of(alloc, &script_of(alloc, one, "")?)?;
-    let two = Lane::of(alloc, &script_of(alloc, TWO, "")?)?;
+    let script = script_of(alloc, lines, "")?;
+    let lane = Lane::of(alloc, &script)?;
+    Ok(lane)
+}
+
+fn two_lanes(alloc: Global, one: &str) -> Result<Vec<Lane>, OutOfMemory>
+    ensures { IfOk result (λ v. AllByRecursion IsFresh v.items) }
+{
+    let one = lane_of(alloc, one)?;
+    let two = lane_of(alloc, TWO)?;
     let mut lanes = Vec::new(alloc);
     lanes.push(one)?;
     lanes.push(two)?;
@@ -88,8 +97,36 @@ fn came_of(
     }
 }
 
-// What comes of two lanes at a gate, of which this is the first.
+// Drops the contract of `run_lanes` here, over type parameters, so that only this proof pays for it.
+fn finished_by<K: Keeper + Send, B: Bell + Send, G: Gate + Sync, R: Threads + Wait + Sync>(
+    rt: &R,
+    alloc: Global,
+    desk: Desk<K, B>,
+    lanes: Vec<Lane>,
+    gate: &G,
+) -> Finished<K, B>
+    requires { AllByRecursion IsFresh lanes.items }
+{
+    run_lanes(rt, alloc, desk, lanes, gate)
+}
+
+// What comes of lanes at a gate, over the tables.
 #[tactic(auto, using(keeper::proofs::Crossing::MemoryKeeper_send, alerts::proofs::Crossing::MemoryBell_send))]
+fn run_over<G: Gate + Sync, R: Threads + Wait + Sync>(
+    rt: &R,
+    alloc: Global,
+    tables: Tables,
+    lanes: Vec<Lane>,
+    gate: &G,
+) -> Result<Came, OutOfMemory>
+    requires { AllByRecursion IsFresh lanes.items }
+{
+    let desk = memory_desk(alloc, listed_board(alloc, tables));
+    let finished = finished_by(rt, alloc, desk, lanes, gate);
+    came_of(alloc, finished)
+}
+
+// What comes of two lanes at a gate, of which this is the first.
 fn run<G: Gate + Sync, R: Threads + Wait + Sync>(
     rt: &R,
     alloc: Global,
@@ -97,15 +134,8 @@ fn run<G: Gate + Sync, R: Threads + Wait + Sync>(
     gate: &G,
 ) -> Result<Came, TableFault> {
     let lanes = two_lanes(alloc, one)?;
-    let mut board = Board::new(alloc, small_tables(alloc)?);
-    board.hold_entries(alloc);
-    let desk = Desk {
-        board,
-        keeper: MemoryKeeper::new(Vec::new(alloc), Vec::new(alloc)),
-        ringer: Ringer::none(alloc),
-    };
-    let finished = run_lanes(rt, alloc, desk, lanes, gate);
-    Ok(came_of(alloc, finished)?)
+    let tables = small_tables(alloc)?;
+    Ok(run_over(rt, alloc, tables, lanes, gate)?)
 }
 
 // Whether there is one tick and then six calls, of which these are the last two.
@@ -118,7 +148,7 @@ fn ends_in(numbers: &[u64], fifth: u64, sixth: u64) -> bool {
 #[test]
 fn two_lanes_meet(rt: HostRuntime) -> Result<(), Fail> {
     for (held, fifth, sixth) in [(1, 2, 3), (2, 5, 6)] {
-        let meeting = Meeting::new(held);
+        let meeting = Meeting::new(2, held);
         let came = run(&rt, rt.alloc(), ONE, &meeting)?;
         assert!(rt; !meeting.gave_up(), "lane {held} is held: the lanes met");
         assert!(rt;
@@ -134,7 +164,7 @@ fn two_lanes_meet(rt: HostRuntime) -> Result<(), Fail> {
 #[test]
 fn a_held_line_is_answered_late(rt: HostRuntime) -> Result<(), Fail> {
     for one in [VIEW, REFUSAL, REPEAT] {
-        let meeting = Meeting::new(1);
+        let meeting = Meeting::new(2, 1);
         let came = run(&rt, rt.alloc(), one, &meeting)?;
         assert!(rt; !meeting.gave_up(), "the lanes met");
         assert!(rt; came.numbers.len() == 5, "the second line has no entry");

@@ -1,4 +1,3 @@
-use crate::hostile::{between, lists, longest};
 use asks::plan_text;
 use desk_io::OutOfMemory;
 use desk_json::{PlanText, read_plan};
@@ -16,23 +15,6 @@ const LEG: &str =
     r#"{"alternates":[{"fuel":4294967295,"minutes":4294967295,"station":"KPHL"},{"fuel":4294967295,"minutes":4294967295,"station":"KBOS"},{"fuel":4294967295,"minutes":4294967295,"station":"KJFK"}],"burn":4294967295,"eta":"2099-12-31T23:59Z","etd":"2099-12-31T23:58Z","extra":4294967295,"from":"EINN","minimum":4294967295,"minutes":4294967295,"onboard":4294967295,"takeoff_alternate":{"minutes":4294967295,"station":"EINN"},"to":"EGLL"}"#;
 
 const BACK: &str = r#"],"tail":"N9-45678"}"#;
-
-// Texts that are no plan: none, a value that isn't an object, one after which something else comes, one after a byte
-// order mark, one within another object, one with another key, and one without a key.
-const OTHERS: [&str; 8] = [
-    "",
-    "null",
-    r#"[{"captain":"C7","flight":"DK101","kind":"domestic","legs":[],"tail":"N801DK"}]"#,
-    r#"{"captain":"C7","flight":"DK101","kind":"domestic","legs":[],"tail":"N801DK"} {}"#,
-    "\u{feff}{\"captain\":\"C7\",\"flight\":\"DK101\",\"kind\":\"flag\",\"legs\":[],\"tail\":\"N801DK\"}",
-    r#"{"plan":{"captain":"C7","flight":"DK101","kind":"domestic","legs":[],"tail":"N801DK"}}"#,
-    r#"{"captain":"C7","crew":4,"flight":"DK101","kind":"domestic","legs":[],"tail":"N801DK"}"#,
-    r#"{"captain":"C7","flight":"DK101","kind":"domestic","legs":[]}"#,
-];
-
-// A plan without legs, which is read, although no release can be drafted for it.
-const NONE: &str =
-    r#"{"captain":"C7","flight":"DK101","kind":"domestic","legs":[],"tail":"N801DK"}"#;
 
 // A plan of so many legs.
 fn plan_of(alloc: Global, legs: usize) -> Result<Vec<u8>, OutOfMemory> {
@@ -58,14 +40,6 @@ fn is_text_of(alloc: Global, text: &[u8], legs: usize) -> Result<bool, OutOfMemo
     }
 }
 
-fn is_plan(alloc: Global, text: &[u8]) -> Result<bool, OutOfMemory> {
-    match read_plan(alloc, text) {
-        Ok(_) => Ok(true),
-        Err(PlanText::NotPlan) => Ok(false),
-        Err(PlanText::OutOfMemory) => Err(OutOfMemory),
-    }
-}
-
 #[test]
 fn the_text_of_a_plan_is_read_and_written_again(rt: HostRuntime) -> Result<(), Fail> {
     assert!(rt; is_text_of(rt.alloc(), ONE.as_bytes(), 1)?);
@@ -73,28 +47,5 @@ fn the_text_of_a_plan_is_read_and_written_again(rt: HostRuntime) -> Result<(), F
         let text = plan_of(rt.alloc(), legs)?;
         assert!(rt; is_text_of(rt.alloc(), &text, legs)?, "{legs}");
     }
-    assert!(rt; !is_plan(rt.alloc(), &plan_of(rt.alloc(), 1_001)?)?);
-    Ok(())
-}
-
-#[test]
-fn a_text_that_is_no_plan_is_refused(rt: HostRuntime) -> Result<(), Fail> {
-    let alloc = rt.alloc();
-    assert!(rt; is_plan(alloc, &between(alloc, " \r\n", NONE.as_bytes(), "\t\n")?)?);
-    for text in OTHERS {
-        assert!(rt; !is_plan(alloc, text.as_bytes())?, "{text}");
-    }
-    assert!(rt; !is_plan(alloc, &between(alloc, "\"", b"C\xff", "\"")?)?);
-    for depth in [127, 128] {
-        assert!(rt; !is_plan(alloc, &lists(alloc, depth)?)?, "{depth}");
-    }
-    Ok(())
-}
-
-#[test]
-fn a_text_of_64_mebibytes_may_be_a_plan(rt: HostRuntime) -> Result<(), Fail> {
-    let alloc = rt.alloc();
-    assert!(rt; is_plan(alloc, &longest(alloc, b' ', NONE)?)?);
-    assert!(rt; !is_plan(alloc, &longest(alloc, b'[', NONE)?)?);
     Ok(())
 }

@@ -180,13 +180,18 @@ fn is_row_of(alloc: Global, row: &Row, record: &Record) -> Result<bool, OutOfMem
     Ok(again.kind == row.kind && again.key == row.key && again.body.bytes() == row.body.bytes())
 }
 
+// Whether a record is what its row here says, copied so, and written as that row.
+fn is_whole(alloc: Global, row: &Row, record: &Record) -> Result<bool, OutOfMemory>
+    requires { HasMoments record.now }
+{
+    Ok(says(record) && is_record_copied(alloc, record)? && is_row_of(alloc, row, record)?)
+}
+
 // Whether a row is read as what it says, copied so, and written from that as it was.
 #[tactic(auto, using(records::proofs::RowLaws::valid_moments))]
 fn is_both_ways(alloc: Global, row: &Row) -> Result<bool, OutOfMemory> {
     match read_row(alloc, row) {
-        Ok(record) => Ok(
-            says(&record) && is_record_copied(alloc, &record)? && is_row_of(alloc, row, &record)?,
-        ),
+        Ok(record) => is_whole(alloc, row, &record),
         Err(RowFault::NotCanonical) => Ok(false),
         Err(RowFault::OutOfMemory) => Err(OutOfMemory),
     }

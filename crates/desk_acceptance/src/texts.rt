@@ -1,4 +1,4 @@
-// Lines that `small_airline::push_script` reads.
+// Lines that `small_airline::script_of` reads.
 
 /// The forecast of the alternate falls below minima, and rises again.
 pub const AFTERNOON: &str =
@@ -45,76 +45,4 @@ D1 0 19:29 "do":"alerts"
 D1 0 19:30 "do":"alerts"
 D1 0 19:31 "do":"alerts"
 C7 4 19:32 "do":"arrive","leg":1,"release":1
-"#;
-
-/// A report comes between the signatures, so the release is prepared and signed again.
-pub const RELEASED: &str =
-    r#"F1 1 17:25 "do":"admit","text":"TAF KBOS 121720Z 1218/1324 24010KT P6SM SCT040"
-F1 2 17:25 "do":"admit","text":"TAF KJFK 121720Z 1218/1324 24010KT P6SM BKN030"
-F1 3 17:25 "do":"admit","text":"TAF KPHL 121720Z 1218/1324 24010KT P6SM BKN030"
-D1 1 17:30 "do":"draft","plan":{"captain":"C7","flight":"DK101","kind":"domestic","legs":[{"alternates":[{"fuel":3000,"minutes":35,"station":"KPHL"}],"burn":12000,"eta":"2025-03-12T19:00Z","etd":"2025-03-12T18:00Z","extra":0,"from":"KBOS","minimum":19500,"minutes":55,"onboard":20000,"takeoff_alternate":null,"to":"KJFK"}],"tail":"N801DK"}
-D1 2 17:31 "do":"prepare","release":1
-D1 3 17:32 "digest":"93552bd08bcf733af54f012ef3711733ecf23ec2726678302a0dba7d4b038410","do":"sign","release":1,"revision":1
-F1 4 17:40 "do":"admit","text":"SPECI KJFK 121738Z 24012KT 4SM BR BKN015 11/09 A3008"
-C7 1 17:41 "digest":"93552bd08bcf733af54f012ef3711733ecf23ec2726678302a0dba7d4b038410","do":"concur","release":1,"revision":1
-D1 4 17:42 "do":"prepare","release":1
-D1 5 17:43 "digest":"95c87b5fa26f1568c4095ff2b69848aaf24ca1e1a3a2cf5f5b217a52f967fbcb","do":"sign","release":1,"revision":1
-C7 2 17:44 "digest":"95c87b5fa26f1568c4095ff2b69848aaf24ca1e1a3a2cf5f5b217a52f967fbcb","do":"concur","release":1,"revision":1
-"#;
-
-/// Its leg departs.
-pub const DEPARTED: &str = r#"C7 3 18:02 "do":"depart","leg":1,"release":1
-"#;
-
-/// A minute after a final plan is filed.
-pub const FILED: &str = r#"D1 0 18:06 "do":"board"
-"#;
-
-/// The weather at Philadelphia falls below the minima of an alternate, and not below those of landing.
-pub const WORSE: &str =
-    r#"F1 5 18:24 "do":"admit","text":"TAF AMD KPHL 121822Z 1218/1324 24010KT 1SM BR OVC004"
-D1 0 18:25 "do":"board"
-"#;
-
-/// The minute of the redispatch.
-pub const TURN: &str = r#"D1 0 18:26 "do":"board"
-"#;
-
-/// The redispatch is prepared, and signed by dispatcher and captain.
-pub const TURNED: &str = r#"D1 7 18:27 "do":"prepare","release":1
-D1 8 18:28 "digest":"ffe40217fe74c54358fd95f9eca6b6bdfdb6fe749c763089b0739975ff35adff","do":"sign","release":1,"revision":2
-C7 4 18:29 "digest":"ffe40217fe74c54358fd95f9eca6b6bdfdb6fe749c763089b0739975ff35adff","do":"concur","release":1,"revision":2
-"#;
-
-/// The flight is late at Kennedy.
-pub const LATE: &str = r#"D1 0 19:31 "do":"board"
-"#;
-
-/// The same flight to Philadelphia, with Kennedy as its alternate. Its fuel is enough with and without the alternate.
-pub const FINAL: &str =
-    r#"D1 0 18:05 "do":"draft","plan":{"captain":"C7","flight":"DK101","kind":"domestic","legs":[{"alternates":[{"fuel":2500,"minutes":30,"station":"KJFK"}],"burn":7000,"eta":"2025-03-12T19:20Z","etd":"2025-03-12T18:00Z","extra":0,"from":"KBOS","minimum":14500,"minutes":40,"onboard":16000,"takeoff_alternate":null,"to":"KPHL"}],"tail":"N801DK"}
-"#;
-
-/// The same, with a pound less than the fuel to the alternate needs.
-pub const SHORT_FINAL: &str =
-    r#"D1 0 18:05 "do":"draft","plan":{"captain":"C7","flight":"DK101","kind":"domestic","legs":[{"alternates":[{"fuel":2500,"minutes":30,"station":"KJFK"}],"burn":7000,"eta":"2025-03-12T19:20Z","etd":"2025-03-12T18:00Z","extra":0,"from":"KBOS","minimum":13999,"minutes":40,"onboard":16000,"takeoff_alternate":null,"to":"KPHL"}],"tail":"N801DK"}
-"#;
-
-/// A flight of two legs that goes back to Boston from Kennedy.
-pub const HOME_FINAL: &str =
-    r#"D1 0 20:01 "do":"draft","plan":{"captain":"C7","flight":"DK101","kind":"domestic","legs":[{"alternates":[{"fuel":3000,"minutes":35,"station":"KPHL"}],"burn":12000,"eta":"2025-03-12T19:00Z","etd":"2025-03-12T18:00Z","extra":0,"from":"KBOS","minimum":19500,"minutes":55,"onboard":20000,"takeoff_alternate":null,"to":"KJFK"},{"alternates":[{"fuel":3000,"minutes":45,"station":"KPHL"}],"burn":5000,"eta":"2025-03-12T20:40Z","etd":"2025-03-12T19:50Z","extra":0,"from":"KJFK","minimum":12500,"minutes":45,"onboard":13000,"takeoff_alternate":null,"to":"KBOS"}],"tail":"N801DK"}
-"#;
-
-/// The second leg is late at its destination, or hasn't departed.
-pub const LATER: &str = r#"D1 0 21:11 "do":"board"
-"#;
-
-/// A call that stands for a turn, one for a release without a final plan, and a call that stands for no turn.
-pub const PREPARE: &str = r#"D1 6 18:26 "do":"prepare","release":1
-"#;
-
-pub const PREPARE_OTHER: &str = r#"D1 6 18:26 "do":"prepare","release":2
-"#;
-
-pub const CANCEL: &str = r#"D1 6 18:26 "do":"cancel","release":1
 "#;

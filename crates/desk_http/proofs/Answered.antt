@@ -9,8 +9,10 @@ use Rattle.httparse.specs.Grammar.{RequestHead, IsRequestHead, lf, print_request
 use Rattle.httparse.proofs.GrammarLemmas.{request_unique, ReadsRequest-append}
 use Rattle.httparse.proofs.OnLiterals.{httparse_on_literals}
 use Rattle.desk_net.specs.Streams.{Stream, unread, OnlyRead}
+use Rattle.desk_net.specs.declared.crossed.Crossed.{Crossed}
 use Rattle.desk_http.specs.Heads.{head_limit, asks}
-use Rattle.desk_http.specs.Requests.{HasHead, wire_of, Begins, BeginsWithRequest, IsRefused, IsPart, IsPartOfHead, IsPartOfBody, IsTooLong, HasRead, NextRequest, IsOutside, unused, GivesRequest, IsOneOf, AnswersBytes, AnswersUnused}
+use Rattle.desk_http.specs.Received.{CameIn, EndedIn}
+use Rattle.desk_http.specs.Requests.{HasHead, wire_of, Begins, BeginsWithRequest, IsRefused, IsPart, IsPartOfHead, IsPartOfBody, IsTooLong, IsUnfinished, GivesNone, HasRead, FaultsBy, NextRequest, NextCrossed, IsOutside, unused, GivesRequest, IsOneOf, AnswersBytes, AnswersUnused}
 use Rattle.desk_http.specs.declared.wire.Asked.{Asked}
 use Rattle.desk_http.specs.declared.wire.Wire.{Wire}
 use Rattle.desk_http.specs.declared.wire.WireFault.{WireFault}
@@ -304,3 +306,31 @@ answers None None kept left result same next = tt
 answers (Some before) (Some now) kept left result same next = answer _ _ result (gives_all (drop before.taken before.input) (drop now.taken now.input) kept left result next)
 answers None (Some now) kept left result same next = absurd same
 answers (Some before) None kept left result same next = absurd same
+
+-- ---- by the record of what crossed the link
+
+gives_why : (before now : List Crossed) (bytes : List ℕ) (fault : WireFault) → FaultsBy CameIn EndedIn before now bytes fault → GivesNone bytes fault
+gives_why before now bytes End why = why.0
+gives_why before now bytes Cut why = why.0
+gives_why before now bytes BadHead why = why
+gives_why before now bytes TooLarge why = why
+gives_why before now bytes NoLength why = why
+gives_why before now bytes WrongMethod why = why
+gives_why before now bytes ReadFault why = tt
+gives_why before now bytes OutOfMemory why = tt
+
+-- the request is the answer for the bytes that were kept and those that came
+pub crossed_request : (before now : List Crossed) (kept left : List ℕ) (wire : Wire) → NextCrossed before now kept left (Ok wire)
+    → (read : List ℕ) × CameIn before read now × AnswersBytes (kept ++ read) left (Ok wire)
+crossed_request before now kept left wire (bytes, (read, is, came), begins) =
+    (read, came, answer (kept ++ read) left (Ok wire) (subst (λ b. BeginsWithRequest b wire left) is begins))
+
+-- so is the fault, and if the link failed, the bytes are no whole request
+pub crossed_fault : (before now : List Crossed) (kept left : List ℕ) (fault : WireFault) → NextCrossed before now kept left (Err fault)
+    → (read : List ℕ) × CameIn before read now × AnswersBytes (kept ++ read) left (Err fault) × (fault ≡ ReadFault → IsUnfinished (kept ++ read))
+crossed_fault before now kept left fault ((read, is, came), why) = (
+  read,
+  came,
+  answer (kept ++ read) left (Err fault) (subst (λ b. GivesNone b fault) is (gives_why before now left fault why)),
+  λ failed. subst IsUnfinished is (subst (FaultsBy CameIn EndedIn before now left) failed why),
+)

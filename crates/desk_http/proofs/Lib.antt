@@ -1,7 +1,9 @@
 pub mod Bounds
 pub mod Room
 pub mod Links
+pub mod CameLaws
 pub mod Streams
+pub mod Nexts
 pub mod Answered
 pub mod Seeks
 pub mod Found

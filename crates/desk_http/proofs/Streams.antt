@@ -1,5 +1,6 @@
 -- What is read of a stream, and what its bytes begin with.
-use Rattle.std.proofs.Common.{◌≡◌, ◌≢◌, ◌==◌, false, ℕ, ◌+◌, ◌-◌, ◌<◌, ◌≤◌, inl, inr, List, [], ◌∷◌, ◌++◌, length, take, drop, Option, Some, None, Result, Ok, Err, refl, ap, sym, subst, ◌∙◌, arith, length-append, append-nil, slice_range, MatchResult, IsErr, IsErrAnd}
+use Rattle.std.proofs.Common.{◌≡◌, ◌≢◌, ◌==◌, true, false, ℕ, ◌+◌, ◌-◌, ◌<◌, ◌≤◌, inl, inr, List, [], ◌∷◌, ◌++◌, length, take, drop, Option, Some, None, Result, Ok, Err, refl, ap, sym, subst, ◌∙◌, arith, length-append, append-nil, slice_range, MatchResult, IsErr, IsErrAnd}
+use Rattle.std.proofs.lemmas.Bool.{eqb-true}
 use Rattle.std.proofs.lemmas.List.{append_assoc, take-append-drop, take_all, drop-append-le, drop-drop, length-take, length-take-le, nil_from_length}
 use Rattle.std.proofs.Math.Seq.{drop-append_seam}
 use Rattle.httparse.specs.Grammar.{RequestHead, print_request, HasNoRequest, NeverHasRequest}
@@ -8,30 +9,35 @@ use Rattle.httparse.specs.declared.spans.HeaderSpan.{HeaderSpan}
 use Rattle.httparse.specs.declared.spans.RequestSpans.{RequestSpans}
 use Rattle.desk_io.specs.Health.{Health, HasCause}
 use Rattle.desk_http.specs.Heads.{Fields, fields_at, head_limit, asked, asks, IsRefusal}
-use Rattle.desk_http.specs.Requests.{Splits, HasHead, wire_of, Begins, BeginsWithRequest, IsRefused, IsPart, IsUnfinished, HasRead, ReadsNone, EndsBy, FallsShort, IsOutside}
+use Rattle.desk_http.specs.Reading.{Input, FoundEnd, Grows, Stops, Nexts, ReadsNone, FallsShort}
+use Rattle.desk_http.specs.Requests.{Splits, HasHead, wire_of, Begins, BeginsWithRequest, IsRefused, IsPart, IsUnfinished, IsOutside}
 use Rattle.desk_http.specs.declared.wire.Asked.{Asked}
 use Rattle.desk_http.specs.declared.wire.Wire.{Wire}
 use Rattle.desk_http.specs.declared.wire.WireFault.{WireFault}
 use Rattle.desk_http.specs.declared.wire.WireFault.TheVariants.{End, Cut, BadHead, TooLarge, NoLength, WrongMethod, ReadFault, OutOfMemory}
+use Rattle.desk_http.proofs.CameLaws.{came_more, ended_on}
 
 -- a fault that is passed on
 pub passed_on : {T : Type 0} (r : Result T WireFault) (fault : WireFault) (P : T → Type 0) (Q : WireFault → Type 0) → IsErr r → IsErrAnd r (λ e. e ≡ fault) → Q fault → MatchResult r P Q
 passed_on (Ok t) fault P Q fails is held = cc
 passed_on (Err e) fault P Q fails is held = subst Q (sym is) held
 
+-- a call that reads nothing leaves what was read
+pub grown_still : (before mid now : Input) (kept grown left : List ℕ) → Grows before mid kept grown → ReadsNone mid now grown left → Grows before now kept left
+grown_still before mid now kept grown left read same =
+    subst (λ later. Grows before later kept left) (sym same.0) (subst (Grows before mid kept) (sym same.1) read)
+
 -- after bytes that are no whole request no more was read
-pub outside_ends : (before mid now : Option (List ℕ)) (kept grown left : List ℕ) (fault : WireFault) → HasRead before mid kept grown → IsUnfinished grown → (fault ≡ ReadFault → ReadsNone mid now grown left)
-    → IsOutside fault → EndsBy before now kept left fault
-outside_ends before mid now kept grown left ReadFault read part none is =
-    let same = none refl in
-    (subst (λ later. HasRead before later kept left) (sym same.0) (subst (HasRead before mid kept) (sym same.1) read), subst IsUnfinished (sym same.1) part)
-outside_ends before mid now kept grown left OutOfMemory read part none is = tt
-outside_ends before mid now kept grown left End read part none is = absurd is
-outside_ends before mid now kept grown left Cut read part none is = absurd is
-outside_ends before mid now kept grown left BadHead read part none is = absurd is
-outside_ends before mid now kept grown left TooLarge read part none is = absurd is
-outside_ends before mid now kept grown left NoLength read part none is = absurd is
-outside_ends before mid now kept grown left WrongMethod read part none is = absurd is
+pub outside_stops : (before mid now : Input) (kept grown left : List ℕ) (fault : WireFault) → Grows before mid kept grown → IsUnfinished grown → ReadsNone mid now grown left
+    → IsOutside fault → Stops before now kept left fault
+outside_stops before mid now kept grown left ReadFault read part none is = (grown_still before mid now kept grown left read none, subst IsUnfinished (sym none.1) part)
+outside_stops before mid now kept grown left OutOfMemory read part none is = (grown_still before mid now kept grown left read none, tt)
+outside_stops before mid now kept grown left End read part none is = absurd is
+outside_stops before mid now kept grown left Cut read part none is = absurd is
+outside_stops before mid now kept grown left BadHead read part none is = absurd is
+outside_stops before mid now kept grown left TooLarge read part none is = absurd is
+outside_stops before mid now kept grown left NoLength read part none is = absurd is
+outside_stops before mid now kept grown left WrongMethod read part none is = absurd is
 
 -- reading twice
 splits_more : (before now later : Option (List ℕ)) (one two : List ℕ) → Splits before one now → Splits now two later → Splits before (one ++ two) later
@@ -42,11 +48,22 @@ splits_more (Some before) None later one two a b = absurd a
 splits_more (Some before) (Some now) None one two a b = absurd b
 splits_more (Some before) (Some now) (Some later) one two a b = a ∙ ap (λ x. one ++ x) b ∙ sym (append_assoc one two later)
 
-pub read_on : (before now later : Option (List ℕ)) (kept grown longer : List ℕ) → HasRead before now kept grown → HasRead now later grown longer → HasRead before later kept longer
-read_on before now later kept grown longer (one, a, s) (two, b, t) =
-    (one ++ two, b ∙ ap (λ x. x ++ two) a ∙ append_assoc kept one two, splits_more before now later one two s t)
+pub read_on : (before now later : Input) (kept grown longer : List ℕ) → Grows before now kept grown → Grows now later grown longer → Grows before later kept longer
+read_on before now later kept grown longer (one, a, s) (two, b, t) = (
+  one ++ two,
+  b ∙ ap (λ x. x ++ two) a ∙ append_assoc kept one two,
+  record {
+    stream = splits_more before.unread now.unread later.unread one two s.stream t.stream;
+    crossed = came_more before.crossed now.crossed later.crossed one two s.crossed t.crossed;
+  },
+)
 
-pub not_shorter : (before now : Option (List ℕ)) (kept grown : List ℕ) → HasRead before now kept grown → length kept ≤ length grown
+-- the end that a later read found
+pub found_on : (before now later : Input) (kept grown : List ℕ) → Grows before now kept grown → FoundEnd now later → FoundEnd before later
+found_on before now later kept grown (read, is, s) end =
+    record { stream = end.stream; crossed = ended_on before.crossed now.crossed later.crossed read s.crossed end.crossed }
+
+pub not_shorter : (before now : Input) (kept grown : List ℕ) → Grows before now kept grown → length kept ≤ length grown
 not_shorter before now kept grown (more, is, splits) = omega (arith, ap length is, length-append kept more)
 
 still : (kept grown read : List ℕ) → grown ≡ kept ++ read → length grown ≡ length kept + 0 → grown ≡ kept
@@ -55,7 +72,7 @@ still kept grown read is same =
     let all = ap length is in
     is ∙ ap (λ x. kept ++ x) (nil_from_length read (omega (arith, long, all, same))) ∙ append-nil kept
 
-pub none_read : (before now : Option (List ℕ)) (kept grown : List ℕ) → HasRead before now kept grown → length grown ≡ length kept + 0 → grown ≡ kept
+pub none_read : (before now : Input) (kept grown : List ℕ) → Grows before now kept grown → length grown ≡ length kept + 0 → grown ≡ kept
 none_read before now kept grown some counted = still kept grown some.0 some.1 counted
 
 -- bytes that begin with a front go on after it
@@ -128,6 +145,9 @@ pub nonempty : (xs : List ℕ) → false ≡ (length xs == 0) → xs ≢ []
 nonempty [] is = absurd (cc)
 nonempty (x ∷ xs) is = λ e. absurd (cc)
 
+pub empty_is : (xs : List ℕ) → (length xs == 0) ≡ true → xs ≡ []
+empty_is xs is = nil_from_length xs (eqb-true (length xs) 0 is)
+
 -- bytes that follow don't change what others begin with
 begins_more : (s more : List ℕ) (n : ℕ) (a : Asked) → Begins s a (drop n s) → n ≤ length s → Begins (s ++ more) a (drop n (s ++ more))
 begins_more s more n a (h, has, is) within = (
@@ -139,7 +159,7 @@ begins_more s more n a (h, has, is) within = (
   is,
 )
 
-pub begins_on : (now later : Option (List ℕ)) (s longer : List ℕ) (n : ℕ) (a : Asked) → HasRead now later s longer → Begins s a (drop n s) → n ≤ length s
+pub begins_on : (now later : Input) (s longer : List ℕ) (n : ℕ) (a : Asked) → Grows now later s longer → Begins s a (drop n s) → n ≤ length s
     → Begins longer a (drop n longer)
 begins_on now later s longer n a (more, is, splits) begins within = subst (λ x. Begins x a (drop n x)) (sym is) (begins_more s more n a begins within)
 
@@ -152,18 +172,24 @@ part_of_body s n a begins within few =
     inr (a, drop n s, begins, omega (arith, long, parts, front, few))
 
 -- a head was read, and not all of its body
-pub short_ends : (before mid now : Option (List ℕ)) (kept grown left : List ℕ) (start : ℕ) (a : Asked) (fault : WireFault) → HasRead before mid kept grown → Begins grown a (drop start grown)
-    → start ≤ length grown → FallsShort (start + a.length) mid now grown left fault → EndsBy before now kept left fault
-short_ends before mid now kept grown left start a ReadFault read begins within (more, few) =
+pub short_stops : (before mid now : Input) (kept grown left : List ℕ) (start : ℕ) (a : Asked) (fault : WireFault) → Grows before mid kept grown → Begins grown a (drop start grown)
+    → start ≤ length grown → Grows mid now grown left → FallsShort (start + a.length) left fault → Stops before now kept left fault
+short_stops before mid now kept grown left start a ReadFault read begins within more few =
     let longer = not_shorter mid now grown left more in
     (read_on before mid now kept grown left read more, inr (part_of_body left start a (begins_on mid now grown left start a more begins within) (omega (arith, within, longer)) few))
-short_ends before mid now kept grown left start a OutOfMemory read begins within short = tt
-short_ends before mid now kept grown left start a End read begins within short = absurd short
-short_ends before mid now kept grown left start a Cut read begins within short = absurd short
-short_ends before mid now kept grown left start a BadHead read begins within short = absurd short
-short_ends before mid now kept grown left start a TooLarge read begins within short = absurd short
-short_ends before mid now kept grown left start a NoLength read begins within short = absurd short
-short_ends before mid now kept grown left start a WrongMethod read begins within short = absurd short
+short_stops before mid now kept grown left start a OutOfMemory read begins within more short = (read_on before mid now kept grown left read more, tt)
+short_stops before mid now kept grown left start a End read begins within more short = absurd short
+short_stops before mid now kept grown left start a Cut read begins within more short = absurd short
+short_stops before mid now kept grown left start a BadHead read begins within more short = absurd short
+short_stops before mid now kept grown left start a TooLarge read begins within more short = absurd short
+short_stops before mid now kept grown left start a NoLength read begins within more short = absurd short
+short_stops before mid now kept grown left start a WrongMethod read begins within more short = absurd short
+
+-- memory ran out after these bytes were read
+pub memory_next : (before now : Input) (kept left : List ℕ) (r : Result Wire WireFault) → Grows before now kept left → IsErr r → IsErrAnd r (λ e. e ≡ OutOfMemory)
+    → Nexts before now kept left r
+memory_next before now kept left (Ok wire) read fails is = cc
+memory_next before now kept left (Err fault) read fails is = subst (Stops before now kept left) (sym is) (read, tt)
 
 -- where all bytes are there, they are the request and then others
 pub whole_request : (s : List ℕ) (n : ℕ) (a : Asked) (wire : Wire) (left : List ℕ) → Begins s a (drop n s) → n ≤ length s → n + a.length ≤ length s
@@ -185,16 +211,16 @@ whole_request s n a wire left begins within all is rest =
     }
 
 -- a head that is refused, and the bytes that were read of it
-pub refusal_ends : (before now : Option (List ℕ)) (kept grown : List ℕ) (fault : WireFault) → HasRead before now kept grown → IsRefused grown fault → IsRefusal fault
-    → EndsBy before now kept grown fault
-refusal_ends before now kept grown WrongMethod read refuses is = (read, refuses)
-refusal_ends before now kept grown NoLength read refuses is = (read, refuses)
-refusal_ends before now kept grown TooLarge read refuses is = (read, inr refuses)
-refusal_ends before now kept grown End read refuses is = absurd is
-refusal_ends before now kept grown Cut read refuses is = absurd is
-refusal_ends before now kept grown BadHead read refuses is = absurd is
-refusal_ends before now kept grown ReadFault read refuses is = absurd is
-refusal_ends before now kept grown OutOfMemory read refuses is = absurd is
+pub refusal_stops : (before now : Input) (kept grown : List ℕ) (fault : WireFault) → Grows before now kept grown → IsRefused grown fault → IsRefusal fault
+    → Stops before now kept grown fault
+refusal_stops before now kept grown WrongMethod read refuses is = (read, refuses)
+refusal_stops before now kept grown NoLength read refuses is = (read, refuses)
+refusal_stops before now kept grown TooLarge read refuses is = (read, inr refuses)
+refusal_stops before now kept grown End read refuses is = absurd is
+refusal_stops before now kept grown Cut read refuses is = absurd is
+refusal_stops before now kept grown BadHead read refuses is = absurd is
+refusal_stops before now kept grown ReadFault read refuses is = absurd is
+refusal_stops before now kept grown OutOfMemory read refuses is = absurd is
 
 pub refusal_cause : {T : Type 0} (before after : Health) (fault : WireFault) → IsRefusal fault → HasCause {T = T} ReadFault before after (Err fault)
 refusal_cause before after fault is = λ e. let same : fault ≡ ReadFault = cc in absurd (subst IsRefusal same is)

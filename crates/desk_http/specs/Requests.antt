@@ -1,10 +1,9 @@
 -- The requests in a stream of bytes, and how a stream ends that contains no further one.
-use Rattle.std.specs.Prelude.{◌≡◌, ◌≢◌, ◌≤◌, ◌<◌, ◌⊎◌, ℕ, List, [], ◌++◌, length, take, drop, Option, Some, None, Result, Ok, Err, MatchResult, Bool, true, false}
+use Rattle.std.specs.Prelude.{◌≡◌, ◌≢◌, ◌≤◌, ◌<◌, ◌⊎◌, ℕ, List, [], ◌++◌, length, take, Option, Some, None, Result, Ok, Err, MatchResult}
 use Rattle.httparse.specs.Grammar.{RequestHead, print_request, ReadsRequest, HasNoRequest, NeverHasRequest}
-use Rattle.httparse.specs.Spans.{IsRequestOf}
-use Rattle.httparse.specs.declared.spans.HeaderSpan.{HeaderSpan}
-use Rattle.httparse.specs.declared.spans.RequestSpans.{RequestSpans}
-use Rattle.desk_http.specs.Heads.{head_limit, body_limit, asks}
+use Rattle.desk_net.specs.declared.crossed.Crossed.{Crossed}
+use Rattle.desk_http.specs.Heads.{head_limit, asks}
+use Rattle.desk_http.specs.Received.{CameIn, EndedIn}
 use Rattle.desk_http.specs.declared.wire.Asked.{Asked}
 use Rattle.desk_http.specs.declared.wire.Wire.{Wire}
 use Rattle.desk_http.specs.declared.wire.WireFault.{WireFault}
@@ -85,32 +84,48 @@ GivesNone bytes WrongMethod = IsRefused bytes WrongMethod
 GivesNone bytes ReadFault = Unit {0}
 GivesNone bytes OutOfMemory = Unit {0}
 
--- Why the bytes that were read give no request. At `End` and `Cut` nothing more is unread.
-abbrev pub Faults : List ℕ → Option (List ℕ) → WireFault → Type 0
-Faults bytes unread End = GivesNone bytes End × AtEnd unread
-Faults bytes unread Cut = GivesNone bytes Cut × AtEnd unread
-Faults bytes unread fault = GivesNone bytes fault
+-- What was read between two moments, however it is known. `Split` states that these bytes were read, and `Ended` that
+-- the last read found the end of the input.
+module _ {S : Type 0} (Split : S → List ℕ → S → Type 0) where
+  -- The kept bytes were extended by bytes that were read.
+  abbrev pub HasReadBy : S → S → List ℕ → List ℕ → Type 0
+  HasReadBy before now kept grown = (read : List ℕ) × (grown ≡ kept ++ read) × Split before read now
 
--- The kept bytes were extended by bytes that were read.
+  module _ (Ended : S → S → Type 0) where
+    -- Why the bytes that were read give no request. At `End` and `Cut` the input has ended. If the link failed, the
+    -- bytes are no whole request. `OutOfMemory` implies nothing about them.
+    abbrev pub FaultsBy : S → S → List ℕ → WireFault → Type 0
+    FaultsBy before now bytes End = GivesNone bytes End × Ended before now
+    FaultsBy before now bytes Cut = GivesNone bytes Cut × Ended before now
+    FaultsBy before now bytes ReadFault = IsUnfinished bytes
+    FaultsBy before now bytes fault = GivesNone bytes fault
+
+    -- why no request was read
+    abbrev pub StopsBy : S → S → List ℕ → List ℕ → WireFault → Type 0
+    StopsBy before now kept left fault = HasReadBy before now kept left × FaultsBy before now left fault
+
+    -- The first request in the kept bytes and those that were read, after which the other bytes are kept; or why there
+    -- is none.
+    abbrev pub NextBy : S → S → List ℕ → List ℕ → Result Wire WireFault → Type 0
+    NextBy before now kept left result =
+        MatchResult result (λ wire. (bytes : List ℕ) × HasReadBy before now kept bytes × BeginsWithRequest bytes wire left) (StopsBy before now kept left)
+
+-- The kept bytes were extended by bytes that were read from the stream, if it is known.
 abbrev pub HasRead : Option (List ℕ) → Option (List ℕ) → List ℕ → List ℕ → Type 0
-HasRead before now kept grown = (read : List ℕ) × (grown ≡ kept ++ read) × Splits before read now
+HasRead = HasReadBy Splits
 
--- no byte was read, and the kept bytes are unchanged
-abbrev pub ReadsNone : Option (List ℕ) → Option (List ℕ) → List ℕ → List ℕ → Type 0
-ReadsNone before now kept left = (now ≡ before) × (left ≡ kept)
-
--- Why no request was read. If the link failed, the bytes read so far are no whole request. `OutOfMemory` implies
--- nothing about them.
+-- why no request was read from the stream
 abbrev pub EndsBy : Option (List ℕ) → Option (List ℕ) → List ℕ → List ℕ → WireFault → Type 0
-EndsBy before now kept left ReadFault = HasRead before now kept left × IsUnfinished left
-EndsBy before now kept left OutOfMemory = Unit {0}
-EndsBy before now kept left fault = HasRead before now kept left × Faults left now fault
+EndsBy = StopsBy Splits (λ _ now. AtEnd now)
 
--- The first request in the kept bytes and those read from the link, after which the other bytes are kept; or why
--- there is none.
+-- The next request of the stream. What is said of the bytes read binds if the stream is known.
 abbrev pub NextRequest : Option (List ℕ) → Option (List ℕ) → List ℕ → List ℕ → Result Wire WireFault → Type 0
-NextRequest before now kept left result =
-    MatchResult result (λ wire. (bytes : List ℕ) × HasRead before now kept bytes × BeginsWithRequest bytes wire left) (EndsBy before now kept left)
+NextRequest = NextBy Splits (λ _ now. AtEnd now)
+
+-- The next request by the record of what crossed the link: nothing did but pieces that reads returned, and their
+-- bytes are those that were read. At `End` and `Cut` the last piece is the empty one.
+abbrev pub NextCrossed : List Crossed → List Crossed → List ℕ → List ℕ → Result Wire WireFault → Type 0
+NextCrossed = NextBy CameIn EndedIn
 
 -- a fault of the link, or out of memory
 abbrev pub IsOutside : WireFault → Type 0
@@ -147,31 +162,3 @@ abbrev pub AnswersUnused : Option (List ℕ) → Option (List ℕ) → Result Wi
 AnswersUnused None None result = Unit {0}
 AnswersUnused (Some bytes) (Some others) result = AnswersBytes bytes others result
 AnswersUnused _ _ result = ⊥
-
--- at least `count` bytes are kept, or the input has ended
-abbrev pub IsUpTo : ℕ → List ℕ → Option (List ℕ) → Bool → Type 0
-IsUpTo count grown now true = count ≤ length grown
-IsUpTo count grown now false = (length grown < count) × AtEnd now
-
--- why fewer than `count` bytes are kept: the link failed, or memory ran out
-abbrev pub FallsShort : ℕ → Option (List ℕ) → Option (List ℕ) → List ℕ → List ℕ → WireFault → Type 0
-FallsShort count before now kept grown ReadFault = HasRead before now kept grown × (length grown < count)
-FallsShort count before now kept grown OutOfMemory = Unit {0}
-FallsShort count before now kept grown fault = ⊥
-
--- The places of the parts of a head that was read, within the limit of a head; or why there is none.
-abbrev pub ReadsHead : Option (List ℕ) → Option (List ℕ) → List ℕ → List ℕ → List HeaderSpan → Result RequestSpans WireFault → Type 0
-ReadsHead before now kept grown spans result =
-    MatchResult result (λ head. HasRead before now kept grown × IsRequestOf (take head_limit grown) spans head) (EndsBy before now kept grown)
-
--- The kept bytes begin with a head of `start` bytes, which asks for `asked`.
-pub record IsBegun (before now : Option (List ℕ)) (kept grown : List ℕ) (asked : Asked) (start : ℕ) : Type 0 where
-  pub read : HasRead before now kept grown
-  pub begins : Begins grown asked (drop start grown)
-  pub within : start ≤ length grown
-  pub short : start ≤ head_limit
-  pub few : asked.length ≤ body_limit
-
--- What a head that was read asks for, and where it ends; or why no request was read.
-abbrev pub Begun : Option (List ℕ) → Option (List ℕ) → List ℕ → List ℕ → Result (Asked × ℕ) WireFault → Type 0
-Begun before now kept grown result = MatchResult result (λ p. IsBegun before now kept grown p.0 p.1) (EndsBy before now kept grown)

@@ -1,10 +1,11 @@
-ghost use Rattle.std.specs.Prelude.{◌≡◌, ◌<◌, ◌≤◌, ◌+◌, length, take, drop, IfOk, IfErr, OnErr, IsErrOf, MatchResult};
+ghost use Rattle.std.specs.Prelude.{◌≡◌, ◌<◌, ◌≤◌, ◌+◌, length, take, drop, IfOk, IfErr, OnErr, MatchResult};
 ghost use Rattle.desk_io.specs.Health.{HasCause, HasFailed};
 ghost use Rattle.desk_net.specs.Seen.{LinkGoesOn};
-ghost use Rattle.desk_net.specs.Streams.{unread, OnlyRead};
+ghost use Rattle.desk_net.specs.Streams.{OnlyRead};
 ghost use Rattle.desk_http.specs.Heads.{head_limit};
-ghost use Rattle.desk_http.specs.Requests as spec;
-ghost use Rattle.desk_http.specs.Requests.{Splits, HasRead, AtEnd};
+ghost use Rattle.desk_http.specs.Reading as spec;
+ghost use Rattle.desk_http.specs.Reading.{input_of, FoundEnd, Grows, IsRead};
+ghost use Rattle.desk_http.specs.Requests.{IsOutside};
 
 use crate::fields::front;
 use crate::{FIELD_ROOM, Front, HEAD_LIMIT, WireFault, front_of};
@@ -20,9 +21,10 @@ fn read_piece<N: Link>(link: &mut N, into: &mut [u8]) -> Result<usize, Failed>
     requires { 0 < length into.old }
     ensures bound { IfOk result (λ n. n ≤ length into.old) }
     ensures given { IfOk result
-        (λ n. Splits (unread (N.seen link.old).stream) (take n into.new) (unread (N.seen link.new).stream)) }
-    ensures at_end { IfOk result (λ n. n ≡ 0 → AtEnd (unread (N.seen link.new).stream)) }
-    ensures stays { OnErr result (unread (N.seen link.new).stream ≡ unread (N.seen link.old).stream) }
+        (λ n. IsRead (input_of (N.seen link.old)) (take n into.new) (input_of (N.seen link.new))) }
+    ensures at_end { IfOk result
+        (λ n. n ≡ 0 → FoundEnd (input_of (N.seen link.old)) (input_of (N.seen link.new))) }
+    ensures stays { OnErr result (input_of (N.seen link.new) ≡ input_of (N.seen link.old)) }
     ensures same { OnlyRead (N.seen link.old).stream (N.seen link.new).stream }
     ensures on { LinkGoesOn (N.seen link.old) (N.seen link.new) }
     ensures cause { OnErr result (HasFailed (N.seen link.old).health (N.seen link.new).health) }
@@ -47,10 +49,11 @@ fn read_after<N: Link>(link: &mut N, bytes: &mut Vec<u8>, kept: usize) -> Result
     requires { kept < length bytes.old.items }
     ensures front { take kept bytes.new.items ≡ take kept bytes.old.items }
     ensures bound { IfOk result (λ n. kept + n ≤ length bytes.new.items) }
-    ensures given { IfOk result (λ n. Splits (unread (N.seen link.old).stream) (take n (drop kept bytes.new.items))
-        (unread (N.seen link.new).stream)) }
-    ensures at_end { IfOk result (λ n. n ≡ 0 → AtEnd (unread (N.seen link.new).stream)) }
-    ensures stays { OnErr result (unread (N.seen link.new).stream ≡ unread (N.seen link.old).stream) }
+    ensures given { IfOk result (λ n. IsRead (input_of (N.seen link.old)) (take n (drop kept bytes.new.items))
+        (input_of (N.seen link.new))) }
+    ensures at_end { IfOk result
+        (λ n. n ≡ 0 → FoundEnd (input_of (N.seen link.old)) (input_of (N.seen link.new))) }
+    ensures stays { OnErr result (input_of (N.seen link.new) ≡ input_of (N.seen link.old)) }
     ensures same { OnlyRead (N.seen link.old).stream (N.seen link.new).stream }
     ensures on { LinkGoesOn (N.seen link.old) (N.seen link.new) }
     ensures cause { OnErr result (HasFailed (N.seen link.old).health (N.seen link.new).health) }
@@ -60,13 +63,14 @@ fn read_after<N: Link>(link: &mut N, bytes: &mut Vec<u8>, kept: usize) -> Result
 
 /// Reads some bytes and appends them to those kept. Returns their number, which is 0 exactly at the end.
 pub(crate) fn read_more<N: Link>(link: &mut N, bytes: &mut Vec<u8>) -> Result<usize, WireFault>
-    ensures more { IfOk result (λ _. HasRead (unread (N.seen link.old).stream) (unread (N.seen link.new).stream)
+    ensures more { IfOk result (λ _. Grows (input_of (N.seen link.old)) (input_of (N.seen link.new))
         bytes.old.items bytes.new.items) }
     ensures count { IfOk result (λ n. length bytes.new.items ≡ length bytes.old.items + n) }
-    ensures at_end { IfOk result (λ n. n ≡ 0 → AtEnd (unread (N.seen link.new).stream)) }
-    ensures outside { IfErr result spec.IsOutside }
-    ensures none { IsErrOf result WireFault.ReadFault → spec.ReadsNone (unread (N.seen link.old).stream)
-        (unread (N.seen link.new).stream) bytes.old.items bytes.new.items }
+    ensures at_end { IfOk result
+        (λ n. n ≡ 0 → FoundEnd (input_of (N.seen link.old)) (input_of (N.seen link.new))) }
+    ensures outside { IfErr result IsOutside }
+    ensures none { OnErr result (spec.ReadsNone (input_of (N.seen link.old)) (input_of (N.seen link.new))
+        bytes.old.items bytes.new.items) }
     ensures same { OnlyRead (N.seen link.old).stream (N.seen link.new).stream }
     ensures on { LinkGoesOn (N.seen link.old) (N.seen link.new) }
     ensures cause { HasCause WireFault.ReadFault (N.seen link.old).health (N.seen link.new).health result }
@@ -99,7 +103,7 @@ pub(crate) fn read_head<N: Link>(
     spans: &mut [HeaderSpan],
 ) -> Result<RequestSpans, WireFault>
     requires { FIELD_ROOM ≤ length spans.old }
-    ensures next { spec.ReadsHead (unread (N.seen link.old).stream) (unread (N.seen link.new).stream)
+    ensures next { spec.ReadsHead (input_of (N.seen link.old)) (input_of (N.seen link.new))
         bytes.old.items bytes.new.items spans.new result }
     ensures same { OnlyRead (N.seen link.old).stream (N.seen link.new).stream }
     ensures on { LinkGoesOn (N.seen link.old) (N.seen link.new) }
@@ -130,11 +134,10 @@ pub(crate) fn read_up_to<N: Link>(
     bytes: &mut Vec<u8>,
     count: usize,
 ) -> Result<bool, WireFault>
-    ensures read { IfOk result (λ _. HasRead (unread (N.seen link.old).stream) (unread (N.seen link.new).stream)
-        bytes.old.items bytes.new.items) }
-    ensures next { MatchResult result (spec.IsUpTo count bytes.new.items (unread (N.seen link.new).stream))
-        (spec.FallsShort count (unread (N.seen link.old).stream) (unread (N.seen link.new).stream)
-        bytes.old.items bytes.new.items) }
+    ensures read { Grows (input_of (N.seen link.old)) (input_of (N.seen link.new)) bytes.old.items bytes.new.items }
+    ensures next { MatchResult result
+        (spec.IsUpTo count (input_of (N.seen link.old)) (input_of (N.seen link.new)) bytes.new.items)
+        (spec.FallsShort count bytes.new.items) }
     ensures same { OnlyRead (N.seen link.old).stream (N.seen link.new).stream }
     ensures on { LinkGoesOn (N.seen link.old) (N.seen link.new) }
     ensures cause { HasCause WireFault.ReadFault (N.seen link.old).health (N.seen link.new).health result }

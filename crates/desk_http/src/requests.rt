@@ -1,9 +1,10 @@
-ghost use Rattle.std.specs.Prelude.{◌≡◌, ◌<◌, ◌≤◌, ◌+◌, ◌-◌, length, drop, slice_range, IfOk, OnOk};
+ghost use Rattle.std.specs.Prelude.{◌≡◌, ◌<◌, ◌≤◌, ◌+◌, ◌-◌, length, drop, slice_range, IfOk, OnOk, OnErr};
 ghost use Rattle.desk_io.specs.Health.{HasCause};
 ghost use Rattle.desk_net.specs.Seen.{LinkGoesOn};
 ghost use Rattle.desk_net.specs.Streams.{unread, OnlyRead};
-ghost use Rattle.desk_http.specs.Requests as spec;
-ghost use Rattle.desk_http.specs.Requests.{NextRequest, unused, AnswersUnused};
+ghost use Rattle.desk_http.specs.Reading as spec;
+ghost use Rattle.desk_http.specs.Reading.{input_of};
+ghost use Rattle.desk_http.specs.Requests.{NextCrossed, NextRequest, unused, wire_of, AnswersUnused};
 
 use crate::reading::{head_bytes, read_head, read_up_to};
 use crate::{Asked, Buffer, FIELD_ROOM, Wire, WireFault, asked};
@@ -30,7 +31,7 @@ fn begin<N: Link>(
     spans: &mut [HeaderSpan],
 ) -> Result<(Asked, usize), WireFault>
     requires { FIELD_ROOM ≤ length spans.old }
-    ensures next { spec.Begun (unread (N.seen link.old).stream) (unread (N.seen link.new).stream)
+    ensures next { spec.Begun (input_of (N.seen link.old)) (input_of (N.seen link.new))
         bytes.old.items bytes.new.items result }
     ensures same { OnlyRead (N.seen link.old).stream (N.seen link.new).stream }
     ensures on { LinkGoesOn (N.seen link.old) (N.seen link.new) }
@@ -63,8 +64,9 @@ fn finish(
 ) -> Result<Wire, OutOfMemory>
     requires order { start ≤ end }
     requires within { end ≤ length bytes.old.items }
-    ensures wire { IfOk result (λ w. w ≡ spec.wire_of asked (slice_range bytes.old.items start end)) }
+    ensures wire { IfOk result (λ w. w ≡ wire_of asked (slice_range bytes.old.items start end)) }
     ensures left { OnOk result (bytes.new.items ≡ drop end bytes.old.items) }
+    ensures err { OnErr result (bytes.new.items ≡ bytes.old.items) }
 {
     let body = Text::of(alloc, &bytes[start..end])?;
     cut(bytes, end);
@@ -93,7 +95,7 @@ fn request_in<N: Link>(
     spans: &mut [HeaderSpan],
 ) -> Result<Wire, WireFault>
     requires { FIELD_ROOM ≤ length spans.old }
-    ensures next { NextRequest (unread (N.seen link.old).stream) (unread (N.seen link.new).stream)
+    ensures next { spec.Nexts (input_of (N.seen link.old)) (input_of (N.seen link.new))
         bytes.old.items bytes.new.items result }
     ensures same { OnlyRead (N.seen link.old).stream (N.seen link.new).stream }
     ensures on { LinkGoesOn (N.seen link.old) (N.seen link.new) }
@@ -120,6 +122,9 @@ fn request_in<N: Link>(
 ///
 /// `ReadFault` means that the link failed and counted a fault, before a whole request was read. Nothing is written.
 /// Don't use the buffer after a fault.
+///
+/// The record of what crossed the link gains the pieces that the reads returned, and nothing else. They are the bytes
+/// of which all this is said (`crossed`), over every link.
 pub fn next_request<N: Link>(
     alloc: Global,
     link: &mut N,
@@ -127,6 +132,7 @@ pub fn next_request<N: Link>(
 ) -> Result<Wire, WireFault>
     ensures next { NextRequest (unread (N.seen link.old).stream) (unread (N.seen link.new).stream)
         buffer.old buffer.new result }
+    ensures crossed { NextCrossed (N.seen link.old).crossed (N.seen link.new).crossed buffer.old buffer.new result }
     ensures answers { AnswersUnused (unused buffer.old (unread (N.seen link.old).stream))
         (unused buffer.new (unread (N.seen link.new).stream)) result }
     ensures same { OnlyRead (N.seen link.old).stream (N.seen link.new).stream }

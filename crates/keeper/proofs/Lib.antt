@@ -4,3 +4,4 @@ mod PlaceLaws
 mod Places
 pub mod SeenLaws
 pub mod SortLaws
+pub mod AccountLaws

@@ -177,7 +177,7 @@ same_change : (change : Change) (rows others : Rows) → AreSame rows others →
 same_change (Put row) rows others same a b = ap (λ o. cond (is_row a b row) (Some row.body) o) (same a b)
 same_change (Remove kind key) rows others same a b = ap (λ o. cond (same_place kind key a b) None o) (same a b)
 
-same_changes : (changes : List Change) (rows others : Rows) → AreSame rows others → AreSame (changed_by changes rows) (changed_by changes others)
+pub same_changes : (changes : List Change) (rows others : Rows) → AreSame rows others → AreSame (changed_by changes rows) (changed_by changes others)
 same_changes [] rows others same = same
 same_changes (change ∷ changes) rows others same = same_changes changes (changed change rows) (changed change others) (same_change change rows others same)
 

@@ -6,4 +6,4 @@ use Rattle.keeper.specs.Seen.{KeeperSeen}
 use Rattle.keeper.specs.declared.memory.MemoryKeeper.{MemoryKeeper}
 
 abbrev pub keeper_seen : MemoryKeeper → KeeperSeen
-keeper_seen k = record { rows = Some (rows_of k.rows.items); commits = k.calls; health = planned_health k.fail.items k.faults }
+keeper_seen k = record { rows = Some (rows_of k.rows.items); commits = k.calls; account = k.account.list; health = planned_health k.fail.items k.faults }

@@ -1,4 +1,5 @@
 pub mod Order
 pub mod Kept
+pub mod Account
 pub mod Seen
 pub mod InMemory

@@ -1,9 +1,11 @@
-ghost use Rattle.std.specs.Prelude.{◌≡◌, IsTrue, IfOk, OnOk, OnErr};
+ghost use Rattle.std.specs.Prelude.{◌≡◌, ◌++◌, ◌∷◌, [], None, Some, IsTrue, IfOk, OnOk, OnErr, MatchResult};
 ghost use Rattle.desk_io.specs.Health.{HasCause};
 ghost use Rattle.desk_io.specs.Planned.{after};
+ghost use Rattle.keeper.specs.Account.{AddsCommit};
 ghost use Rattle.keeper.specs.Order.{rising};
 ghost use Rattle.keeper.specs.Kept.{Lists, Leads};
 ghost use Rattle.keeper.specs.Seen.{KeeperSeen, KeeperGoesOn};
+ghost use Rattle.keeper.specs.declared.account.AccountEntry.TheVariants.{Load};
 ghost use Rattle.keeper.specs.declared.keeping.KeepFault.TheVariants.{Failed as KeepFailed, OutOfMemory as KeepMemory};
 
 use desk_io::{Change, OutOfMemory, Row};
@@ -44,8 +46,9 @@ impl<T: Drop> From<AllocFailed<T>> for KeepFault {
 
 /// Stores rows, each under a kind and a key. A keeper may need a load before it accepts a commit.
 pub trait Keeper {
-    /// The rows, if contracts know them, the number of commits that were requested, and the keeper's health. The rows
-    /// of a keeper over a real file are unknown.
+    /// The rows, if contracts know them. The rows of a keeper over a real file are unknown. Then, for every keeper, the
+    /// number of commits that were requested, all loads and commits so far, in order and with their outcomes, and the
+    /// keeper's health.
     ghost seen: { Self → KeeperSeen };
 
     /// Returns all rows in order of kind, then key. No two have the same kind and key.
@@ -54,6 +57,9 @@ pub trait Keeper {
         ensures rows { IfOk result (λ rows. Lists (seen self.old).rows rows.items) }
         ensures same { (seen self.new).rows ≡ (seen self.old).rows }
         ensures none { (seen self.new).commits ≡ (seen self.old).commits }
+        ensures account { MatchResult result
+            (λ rows. (seen self.new).account ≡ (seen self.old).account ++ Load (Some rows.items) ∷ [])
+            (λ _. (seen self.new).account ≡ (seen self.old).account ++ Load None ∷ []) }
         ensures on { KeeperGoesOn (seen self.old) (seen self.new) }
         ensures cause { HasCause KeepFailed (seen self.old).health (seen self.new).health result };
 
@@ -62,6 +68,7 @@ pub trait Keeper {
         ensures ok { OnOk result (Leads (seen self.old).rows changes.now (seen self.new).rows) }
         ensures err { OnErr result ((seen self.new).rows ≡ (seen self.old).rows) }
         ensures one { (seen self.new).commits ≡ after (seen self.old).commits }
+        ensures account { AddsCommit (seen self.old).account (seen self.new).account changes.now result }
         ensures on { KeeperGoesOn (seen self.old) (seen self.new) }
         ensures cause { HasCause KeepFailed (seen self.old).health (seen self.new).health result };
 

@@ -1,5 +1,6 @@
 use crate::flights::{ETD, leg_of, plan_of, push_alternate};
 use desk_io::{LineFeeds, Listed, OutOfMemory, Text, runs_between};
+use desk_time::Minute;
 use plan::{Kind, Leg, Legs, Phase, Plan, PlanWhy, check_change};
 use small_airline::{fits, may_be_checked};
 use std::alloc::Global;
@@ -27,18 +28,30 @@ fn alter(leg: &mut Leg, member: u8) -> Result<(), OutOfMemory> {
     Ok(())
 }
 
+// Adds the leg of a line, of which a member is changed.
+fn push_leg(
+    alloc: Global,
+    legs: &mut Legs,
+    line: &[u8],
+    etd: Minute,
+    member: u8,
+) -> Result<(), OutOfMemory> {
+    if let Some(mut leg) = leg_of(alloc, line, etd)? {
+        alter(&mut leg, member)?;
+        legs.push(leg)?;
+    }
+    Ok(())
+}
+
 // The legs of lines, an hour each, of which a member of the last is changed.
 fn legs_of(alloc: Global, text: &[u8], member: u8) -> Result<Legs, OutOfMemory> {
     let lines = runs_between::<LineFeeds>(alloc, text)?;
     let mut legs = Listed::new(alloc);
     let mut etd = ETD + 1;
     for (i, line) in lines.as_slice().iter().enumerate() {
-        if let Some(mut leg) = leg_of(alloc, line.bytes(), etd)? {
-            if i + 1 == lines.as_slice().len() {
-                alter(&mut leg, member)?;
-            }
-            legs.push(leg)?;
-        }
+        let is_last = i + 1 == lines.as_slice().len();
+        let member = if is_last { member } else { 0 };
+        push_leg(alloc, &mut legs, line.bytes(), etd, member)?;
         etd = etd.saturating_add(60);
     }
     Ok(legs)
@@ -156,6 +169,12 @@ fn has_member_faults(alloc: Global, old: &Plan) -> Result<bool, OutOfMemory> {
     Ok(true)
 }
 
+fn set_head(alloc: Global, plan: &mut Plan, flight: &[u8], kind: Kind) -> Result<(), OutOfMemory> {
+    plan.flight = Text::of(alloc, flight)?;
+    plan.kind = kind;
+    Ok(())
+}
+
 // What a plan with that head fails in the place of another, whose leg it lacks.
 fn head_fault(
     alloc: Global,
@@ -166,8 +185,7 @@ fn head_fault(
     tail: &[u8],
 ) -> Result<Option<(u32, PlanWhy)>, OutOfMemory> {
     let mut plan = plan_of(alloc, tail, b"C8", legs_of(alloc, TWO, 0)?)?;
-    plan.flight = Text::of(alloc, flight)?;
-    plan.kind = kind;
+    set_head(alloc, &mut plan, flight, kind)?;
     Ok(fault_of(&plan, old, phase))
 }
 

@@ -1,6 +1,6 @@
 ghost use Rattle.std.specs.Prelude.{◌≡◌, ◌<◌, All, IfOk, IsTrue};
 
-use deferrals::{DEFERRAL_LIMIT, Deferral, Deferrals, limits_of};
+use deferrals::{DEFERRAL_LIMIT, Deferral, Deferrals, Limits, limits_of};
 use desk_io::{Copied, LineFeeds, OutOfMemory, Text, push_all, runs_between};
 use desk_time::Minute;
 use ops_tables::Tables;
@@ -56,7 +56,17 @@ fn deferred(alloc: Global, lines: &[u8]) -> Result<Deferrals, OutOfMemory> {
     Ok(list)
 }
 
-// The extra fuel of an aircraft's open items, and each lost capability after a blank.
+// The extra fuel, and each lost capability after a blank.
+fn shown(alloc: Global, limits: &Limits) -> Result<Text, OutOfMemory> {
+    let fuel = limits.extra_fuel.to_string(alloc)?;
+    let mut text = Vec::from_slice(alloc, fuel.as_bytes())?;
+    for name in limits.lost.as_slice() {
+        push_all(&mut text, &[b" ", name.bytes()])?;
+    }
+    Ok(Text::from_vec(text))
+}
+
+// The limits that an aircraft's open items set.
 fn limits_text(
     alloc: Global,
     tables: &Tables,
@@ -65,12 +75,7 @@ fn limits_text(
 ) -> Result<Text, OutOfMemory> {
     let list = deferred(alloc, lines)?;
     let limits = limits_of(alloc, &list, tail, tables)?;
-    let fuel = limits.extra_fuel.to_string(alloc)?;
-    let mut text = Vec::from_slice(alloc, fuel.as_bytes())?;
-    for name in limits.lost.as_slice() {
-        push_all(&mut text, &[b" ", name.bytes()])?;
-    }
-    Ok(Text::from_vec(text))
+    shown(alloc, &limits)
 }
 
 const LINES: &[u8] =

@@ -68,28 +68,50 @@ fn push_airports(
     Ok(())
 }
 
+fn push_uses_of(alloc: Global, out: &mut Vec<u8>, number: u32) -> Result<(), OutOfMemory> {
+    let kind = format!(in alloc; "T{number},")?;
+    push_airports(alloc, out, kind.as_bytes(), b"")
+}
+
 // 200 types, those of the small airline and 198 more, may use 1,000 airports each.
 fn all_uses(alloc: Global) -> Result<Vec<u8>, OutOfMemory> {
     let mut uses = Vec::from_slice(alloc, b"kind,station\n")?;
     push_airports(alloc, &mut uses, b"A320,", b"")?;
     push_airports(alloc, &mut uses, b"B763,", b"")?;
     for number in 0..198_u32 {
-        let kind = format!(in alloc; "T{number},")?;
-        push_airports(alloc, &mut uses, kind.as_bytes(), b"")?;
+        push_uses_of(alloc, &mut uses, number)?;
     }
     Ok(uses)
 }
 
-fn large_shelf(alloc: Global) -> Result<MemoryShelf, OutOfMemory> {
+fn all_airports(alloc: Global) -> Result<Vec<u8>, OutOfMemory> {
     let mut airports = Vec::from_slice(alloc, lines_of("airports.csv").as_bytes())?;
     push_airports(alloc, &mut airports, b"", b",1,0")?;
+    Ok(airports)
+}
+
+fn all_types(alloc: Global) -> Result<Vec<u8>, OutOfMemory> {
     let mut types = Vec::from_slice(alloc, lines_of("types.csv").as_bytes())?;
     push_numbered(alloc, &mut types, b"T", 0, 198, FEATURES)?;
-    let uses = all_uses(alloc)?;
+    Ok(types)
+}
+
+fn push_source(
+    alloc: Global,
+    sources: &mut Vec<(Text, Text)>,
+    name: &[u8],
+    text: Vec<u8>,
+) -> Result<(), OutOfMemory> {
+    let name = Text::of(alloc, name)?;
+    sources.push((name, Text::from_vec(text)))?;
+    Ok(())
+}
+
+fn large_shelf(alloc: Global) -> Result<MemoryShelf, OutOfMemory> {
     let mut sources = Vec::new(alloc);
-    sources.push((Text::of(alloc, b"airports.csv")?, Text::from_vec(airports)))?;
-    sources.push((Text::of(alloc, b"types.csv")?, Text::from_vec(types)))?;
-    sources.push((Text::of(alloc, b"uses.csv")?, Text::from_vec(uses)))?;
+    push_source(alloc, &mut sources, b"airports.csv", all_airports(alloc)?)?;
+    push_source(alloc, &mut sources, b"types.csv", all_types(alloc)?)?;
+    push_source(alloc, &mut sources, b"uses.csv", all_uses(alloc)?)?;
     push_small(alloc, &mut sources)?;
     Ok(MemoryShelf::new(sources, Vec::new(alloc)))
 }

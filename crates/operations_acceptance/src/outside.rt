@@ -73,12 +73,18 @@ fn joined(alloc: Global, texts: &[Text]) -> Result<Vec<u8>, OutOfMemory> {
     Ok(joined)
 }
 
-// Two texts in a list, copied one by one, as a list and as its items.
-fn copied(alloc: Global) -> Result<Vec<u8>, OutOfMemory> {
+// Two texts in a list, of which the second is a copy.
+fn listed(alloc: Global) -> Result<Listed<Text>, OutOfMemory> {
     let mut list = Listed::new(alloc);
     list.push(Text::of(alloc, b"KJFK")?)?;
     list.push(Text::of(alloc, b"KBOS")?.copy(alloc)?)?;
-    let items = copied_items(list.copy(alloc)?.as_slice(), alloc)?;
+    Ok(list)
+}
+
+// They are copied as a list, and then as its items.
+fn copied(alloc: Global) -> Result<Vec<u8>, OutOfMemory> {
+    let list = listed(alloc)?.copy(alloc)?;
+    let items = copied_items(list.as_slice(), alloc)?;
     joined(alloc, &items)
 }
 

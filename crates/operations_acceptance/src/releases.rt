@@ -6,7 +6,7 @@ use desk_io::{Listed, OutOfMemory};
 use facts::Reports;
 use plan::{AttachedList, Phase, Plan};
 use release_text::{attach, newer};
-use small_airline::{admit, may_be_checked, reports_of};
+use small_airline::{may_be_checked, reports_of};
 use std::alloc::Global;
 use std::test::Fail;
 
@@ -26,8 +26,13 @@ pub const HELD: &[(u64, &[u8])] = &[
     (3, b"TAF KPHL 121720Z 1218/1324 24010KT P6SM BKN030"),
 ];
 
-/// A special report of Kennedy, after which the flight needs an alternate.
-pub const SPECIAL: &[u8] = b"SPECI KJFK 121738Z 24012KT 4SM BR BKN015 11/09 A3008";
+/// The same, and then a special report of Kennedy, after which the flight needs an alternate.
+pub const HELD_LATER: &[(u64, &[u8])] = &[
+    (1, b"TAF KBOS 121720Z 1218/1324 24010KT P6SM SCT040"),
+    (2, b"TAF KJFK 121720Z 1218/1324 24010KT P6SM BKN030"),
+    (3, b"TAF KPHL 121720Z 1218/1324 24010KT P6SM BKN030"),
+    (4, b"SPECI KJFK 121738Z 24012KT 4SM BR BKN015 11/09 A3008"),
+];
 
 fn are(attached: &AttachedList, numbers: &[u64]) -> bool {
     let attached = attached.as_slice();
@@ -52,8 +57,8 @@ fn has_weather(
     Ok(are(&attached, numbers) && newer(reports, plan, phase, &attached).is_none())
 }
 
-// Whether a release that has the weather of some reports lacks number 4 of others, and each has its own.
-fn are_newer(
+// Whether a release that has the weather of some reports lacks number 4 of others.
+fn lacks_number_4(
     alloc: Global,
     reports: &Reports,
     others: &Reports,
@@ -62,9 +67,21 @@ fn are_newer(
     requires { IsPlan plan.now }
 {
     let attached = attach(alloc, reports, plan, Phase::Drafted)?;
+    Ok(newer(others, plan, Phase::Ready, &attached) == Some(4))
+}
+
+// The same, and that a release has the weather of its own reports.
+fn are_newer(
+    alloc: Global,
+    reports: &Reports,
+    others: &Reports,
+    plan: &Plan,
+) -> Result<bool, OutOfMemory>
+    requires { IsPlan plan.now }
+{
     let cancelled = Phase::Cancelled { at: ETD };
     Ok(
-        newer(others, plan, Phase::Ready, &attached) == Some(4)
+        lacks_number_4(alloc, reports, others, plan)?
             && has_weather(alloc, reports, plan, Phase::Ready, &[1, 2, 3])?
             && has_weather(alloc, others, plan, Phase::Ready, &[1, 4, 2, 3])?
             && has_weather(alloc, others, plan, cancelled, &[])?,
@@ -76,10 +93,8 @@ fn has_newer(alloc: Global, reports: &Reports, others: &Reports) -> Result<bool,
     Ok(may_be_checked(&plan) && are_newer(alloc, reports, others, &plan)?)
 }
 
-// The same, and then a special report of Kennedy.
 fn is_found_newer(alloc: Global) -> Result<bool, ReportFault> {
-    let mut others = reports_of(alloc, HELD)?;
-    admit(alloc, &mut others, 4, SPECIAL)?;
+    let others = reports_of(alloc, HELD_LATER)?;
     let reports = reports_of(alloc, HELD)?;
     Ok(has_newer(alloc, &reports, &others)?)
 }

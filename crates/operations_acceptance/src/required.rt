@@ -1,7 +1,7 @@
 ghost use Rattle.plan.specs.Check.{IsPlan};
 
 use crate::flights::ETD;
-use crate::releases::{HELD, SPECIAL, plan};
+use crate::releases::{HELD, HELD_LATER, plan};
 use codes::ReportFault;
 use deferrals::Deferrals;
 use desk_io::OutOfMemory;
@@ -9,7 +9,7 @@ use facts::Reports;
 use ops_tables::Tables;
 use plan::{Phase, Plan};
 use rules::required_of;
-use small_airline::{admit, may_be_checked, reports_of, small_tables};
+use small_airline::{may_be_checked, reports_of, small_tables};
 use std::alloc::Global;
 use std::test::Fail;
 
@@ -48,13 +48,20 @@ fn needs(
     Ok(may_be_checked(&plan) && needs_alone(alloc, tables, reports, &plan, wanted)?)
 }
 
+fn is_required(
+    alloc: Global,
+    tables: &Tables,
+    rows: &[(u64, &[u8])],
+    wanted: u64,
+) -> Result<bool, ReportFault> {
+    let reports = reports_of(alloc, rows)?;
+    Ok(needs(alloc, tables, &reports, wanted)?)
+}
+
 // Whether the flight requires 45 minutes of reserve in clear weather, and the fuel to its alternate besides once the
 // weather at its destination asks for one.
 fn are_required(alloc: Global, tables: &Tables) -> Result<bool, ReportFault> {
-    let clear = reports_of(alloc, HELD)?;
-    let mut low = reports_of(alloc, HELD)?;
-    admit(alloc, &mut low, 4, SPECIAL)?;
-    Ok(needs(alloc, tables, &clear, 16_500)? && needs(alloc, tables, &low, 19_500)?)
+    Ok(is_required(alloc, tables, HELD, 16_500)? && is_required(alloc, tables, HELD_LATER, 19_500)?)
 }
 
 #[test]

@@ -1,4 +1,4 @@
-use alerts::{MemoryBell, Notice, NoticeKind, Notices};
+use alerts::{Bell, MemoryBell, Notice, NoticeKind, Notices};
 use desk_io::{Listed, OutOfMemory, Text};
 use ops_tables::Tables;
 use relief::{Handover, Roster, Seated};
@@ -50,10 +50,20 @@ fn bell(alloc: Global, person: &[u8]) -> Result<Vec<MemoryBell>, OutOfMemory> {
     Ok(bells)
 }
 
+fn ring<B: Bell + Drop>(
+    alloc: Global,
+    tables: &Tables,
+    seated: &mut Seated<B>,
+) -> Result<(), OutOfMemory> {
+    let roster = taken_over(alloc, tables)?;
+    let notices = notices(alloc)?;
+    seated.ring_seated(&roster, &notices)
+}
+
 // How many notices the bell of a person hears.
 fn heard_by(alloc: Global, tables: &Tables, person: &[u8]) -> Result<usize, OutOfMemory> {
     let mut seated = Seated::new(alloc, bell(alloc, person)?);
-    seated.ring_seated(&taken_over(alloc, tables)?, &notices(alloc)?)?;
+    ring(alloc, tables, &mut seated)?;
     let (bells, _) = seated.finish();
     Ok(
         bells

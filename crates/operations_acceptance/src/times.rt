@@ -4,9 +4,10 @@ ghost use Rattle.plan.specs.Check.{IsPlan};
 use crate::flights::{ETD, leg_of, plan_of};
 use deferrals::Deferrals;
 use desk_io::{Listed, OutOfMemory, push_all};
+use desk_time::Minute;
 use facts::Reports;
 use ops_tables::Tables;
-use plan::{Finding, Kind, Phase, Plan, Rule, finding_text};
+use plan::{Finding, Findings, Kind, Phase, Plan, Rule, finding_text};
 use rules::{Steps, judge, next_due};
 use small_airline::{has_moment, holds, may_be_checked};
 use std::alloc::Global;
@@ -99,6 +100,30 @@ fn push_findings(
     Ok(())
 }
 
+fn findings_text(alloc: Global, findings: &[Finding]) -> Result<Vec<u8>, OutOfMemory> {
+    let mut out = Vec::new(alloc);
+    push_findings(alloc, &mut out, findings)?;
+    Ok(out)
+}
+
+// What a plan fails at a moment at which no report and no deferral is held.
+fn found<L: Ledger>(
+    alloc: Global,
+    tables: &Tables,
+    plan: &Plan,
+    phase: Phase,
+    moment: Minute,
+    steps: &mut Steps<L>,
+) -> Result<Findings, OutOfMemory>
+    requires plan { IsPlan plan.now }
+{
+    let reports = Reports::new(alloc);
+    let deferrals = Deferrals::new(alloc);
+    judge(
+        alloc, plan, phase, &reports, &deferrals, tables, moment, steps,
+    )
+}
+
 // The rules of time that a plan fails so many minutes after its first etd, each with a blank after it.
 fn late_text<L: Ledger>(
     alloc: Global,
@@ -114,15 +139,9 @@ fn late_text<L: Ledger>(
     requires some { 0 < blank.parts }
 {
     let mut steps = Steps::<L>::new(blank);
-    let reports = Reports::new(alloc);
-    let deferrals = Deferrals::new(alloc);
     let moment = ETD.saturating_add(minutes);
-    let findings = judge(
-        alloc, plan, phase, &reports, &deferrals, tables, moment, &mut steps,
-    )?;
-    let mut out = Vec::new(alloc);
-    push_findings(alloc, &mut out, findings.as_slice())?;
-    Ok(out)
+    let findings = found(alloc, tables, plan, phase, moment, &mut steps)?;
+    findings_text(alloc, findings.as_slice())
 }
 
 // The same of a plan that may be checked; a stroke for another.
@@ -140,6 +159,19 @@ fn late(
     }
 }
 
+// The same of the plan of an aircraft.
+fn late_of(
+    alloc: Global,
+    tables: &Tables,
+    tail: &[u8],
+    kind: Kind,
+    phase: Phase,
+    minutes: u64,
+) -> Result<Vec<u8>, OutOfMemory> {
+    let plan = plan(alloc, tail, kind)?;
+    late(alloc, tables, &plan, phase, minutes)
+}
+
 // Whether these are all rules of time that a plan fails, and of an unknown aircraft its lack in the tables besides.
 fn is_late(
     alloc: Global,
@@ -149,10 +181,8 @@ fn is_late(
     minutes: u64,
     wanted: &[u8],
 ) -> Result<bool, OutOfMemory> {
-    let known = plan(alloc, b"N801DK", kind)?;
-    let unknown = plan(alloc, b"N999DK", kind)?;
-    let text = late(alloc, tables, &known, phase, minutes)?;
-    let more = late(alloc, tables, &unknown, phase, minutes)?;
+    let text = late_of(alloc, tables, b"N801DK", kind, phase, minutes)?;
+    let more = late_of(alloc, tables, b"N999DK", kind, phase, minutes)?;
     Ok(text.as_slice() == wanted && more.strip_prefix(wanted) == Some(TABLES))
 }
 
@@ -198,14 +228,15 @@ fn are_late(alloc: Global, tables: &Tables) -> Result<bool, OutOfMemory> {
     Ok(true)
 }
 
-fn are_timely(alloc: Global, tables: &Tables) -> Result<bool, OutOfMemory> {
+fn have_dues(alloc: Global, tables: &Tables) -> Result<bool, OutOfMemory> {
     let domestic = plan(alloc, b"N801DK", Kind::Domestic)?;
     let flag = plan(alloc, b"N801DK", Kind::Flag)?;
-    Ok(are_due(tables, &domestic, &flag) && are_late(alloc, tables)?)
+    Ok(are_due(tables, &domestic, &flag))
 }
 
 #[test]
 fn rules_of_time_begin_to_fail(rt: HostRuntime) -> Result<(), Fail> {
-    assert!(rt; holds(rt.alloc(), are_timely)?);
+    assert!(rt; holds(rt.alloc(), have_dues)?);
+    assert!(rt; holds(rt.alloc(), are_late)?);
     Ok(())
 }

@@ -93,6 +93,7 @@ use Rattle.sqlite_disk.specs.contracts.start.Unknown as Unknown
 use Rattle.sqlite_std_file.specs.contracts.record.Record as Record
 use Rattle.sqlite_std_file.specs.contracts.host.Host as Host
 use Rattle.sqlite_disk.specs.contracts.modelled.Modelled as Modelled
+use Rattle.sqlite_keeper.proofs.Crossing.{KeeperOver_send}
 use Rattle.sqlite_keeper.specs.contracts.file.KeeperOver as KeeperOver
 use Rattle.sqlite_disk.specs.declared.Disk as Disk
 use Rattle.sqlite_disk.specs.declared.calls.Calls as Calls
@@ -371,9 +372,6 @@ Host_send = search (sendable, crosses, Record_send) depth 60 fits 9000
 
 pub Modelled_send : (C S : RattleType) → IsSend C → IsSend S → (a : Calls.Ghosts C.Denot) → (b : Start.Ghosts S.Denot) → IsSend (Modelled.the_row C S a b)
 Modelled_send C S c s a b = search (sendable, crosses, Tally_send) depth 60 fits 9000
-
-pub KeeperOver_send : (C : RattleType) → IsSend C → IsSend (KeeperOver.the_row C)
-KeeperOver_send C c = search (sendable, crosses) depth 60 fits 9000
 
 -- The keeper that the program uses.
 pub SqliteKeeper_send : (c : Calls.Ghosts Host.the_row.Denot) → (s : Start.Ghosts Unknown.the_row.Denot)

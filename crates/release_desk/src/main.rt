@@ -1,12 +1,16 @@
 //! The program of the dispatch release desk.
 #![tactic(auto)]
 
+mod busy_gate;
+mod shipped;
 mod stderr_bell;
 mod stderr_progress;
 
+use crate::busy_gate::BusyGate;
+use crate::shipped::{DeskBell, run_shipped};
 use crate::stderr_bell::StderrBell;
 use crate::stderr_progress::StderrProgress;
-use commands::{Ending, desk_main};
+use commands::{Ending, WORKERS};
 use desk_io::{FileShelf, OutOfMemory, StdoutSink, Text};
 use desk_net::{SystemClock, TcpDoor};
 use sqlite_keeper::SqliteKeeper;
@@ -14,6 +18,7 @@ use std::alloc::AllocError;
 use std::env;
 use std::io::{ErrorKind, IsTerminal};
 use std::process::ExitCode;
+use timeouts::{Taken, TimedNet};
 
 // The arguments after the program's name. If one of them isn't text, the result is empty, and forms no command.
 fn words_of(rt: &HostRuntime) -> Result<Vec<String>, AllocError> {
@@ -37,14 +42,21 @@ fn keeper_of(rt: HostRuntime) -> Result<SqliteKeeper, AllocError> {
 }
 
 // The only bell, which prints the notices for all dispatchers to standard error.
-fn bells_of(rt: HostRuntime) -> Result<Vec<StderrBell<HostRuntime, HostRuntime>>, OutOfMemory> {
+fn bells_of(rt: HostRuntime) -> Result<Vec<DeskBell>, OutOfMemory> {
     let all = Text::of(rt.alloc(), b"*".as_slice())?;
     let mut bells = Vec::new(rt.alloc());
     bells.push(StderrBell::new(all, rt, rt))?;
     Ok(bells)
 }
 
-#[tactic(auto, using(crate::proofs::KeeperCrossing::SqliteKeeper_send, crate::proofs::BellCrossing::StderrBell_send))]
+// Whether the arguments are those of `stay`, whose connections have timeouts of their own.
+fn is_staying(words: &[String]) -> bool {
+    match words {
+        [name, ..] => name.as_str() == "stay",
+        [] => false,
+    }
+}
+
 fn main(rt: HostRuntime) -> ExitCode {
     let (Ok(words), Ok(keeper), Ok(bells)) = (words_of(&rt), keeper_of(rt), bells_of(rt)) else {
         return ExitCode::from(8);
@@ -52,9 +64,12 @@ fn main(rt: HostRuntime) -> ExitCode {
     let mut shelf = FileShelf::new(rt);
     let mut out = StdoutSink::new(rt);
     let clock = SystemClock::new(rt);
-    let door = TcpDoor::new(rt);
-    let gate = StderrProgress::new(rt.stderr().is_terminal(), rt);
-    let Ending { status, keeper, .. } = desk_main(
+    let stays = is_staying(&words);
+    let taken = Taken::new(WORKERS as u64);
+    let door = TcpDoor::new(TimedNet::new(rt, &taken, !stays));
+    let progress = StderrProgress::new(rt.stderr().is_terminal() && !stays, rt);
+    let gate = BusyGate::new(&taken, progress);
+    let Ending { status, keeper, .. } = run_shipped(
         &rt,
         rt.alloc(),
         &words,

@@ -9,8 +9,8 @@ use std::io::Eprint;
 use std::{io, str, time};
 
 /// Prints a line to standard error for each notice, whoever its dispatcher is. The line has the current moment, the
-/// dispatcher, the release, and the change and the version of its alert. Contracts don't know what was printed. A
-/// line that can't be printed is a counted fault.
+/// dispatcher, who sits there if it is another, the release, and the change and the version of its alert. Contracts
+/// don't know what was printed. A line that can't be printed is a counted fault.
 #[derive(Drop)]
 pub struct StderrBell<E: Eprint + Drop, T: time::Clock + Drop> {
     all: Text,
@@ -35,12 +35,31 @@ fn printed(text: &[u8]) -> &str {
     }
 }
 
-fn tell<E: Eprint>(out: &E, at: &[u8], notice: &Notice) -> io::Result<()> {
+// The other person who sits at the desk, if there is one.
+fn relief_of<'a>(desk: &[u8], sitter: Option<&'a [u8]>) -> Option<&'a str> {
+    match sitter {
+        Some(sitter) if sitter != desk => Some(printed(sitter)),
+        _ => None,
+    }
+}
+
+fn tell<E: Eprint>(out: &E, at: &[u8], notice: &Notice, sitter: Option<&[u8]>) -> io::Result<()> {
     let desk = printed(notice.desk.bytes());
     let (release, version) = (notice.release, notice.version);
     let word = word_of(notice.kind);
     let at = printed(at);
-    eprintln!(out; "{at} {desk}: the alert of release {release} has {word}, version {version}")
+    match relief_of(notice.desk.bytes(), sitter) {
+        Some(sitter) => {
+            eprintln!(out;
+                "{at} {desk} ({sitter}): the alert of release {release} has {word}, version {version}"
+            )
+        }
+        None => {
+            eprintln!(out;
+                "{at} {desk}: the alert of release {release} has {word}, version {version}"
+            )
+        }
+    }
 }
 
 impl<E: Eprint + Drop, T: time::Clock + Drop> StderrBell<E, T> {
@@ -65,9 +84,13 @@ impl<E: Eprint + Drop, T: time::Clock + Drop> Bell for StderrBell<E, T> {
     }
 
     fn ring(&mut self, notice: &Notice) -> Result<(), Failed> {
+        self.ring_at(notice, None)
+    }
+
+    fn ring_at(&mut self, notice: &Notice, sitter: Option<&[u8]>) -> Result<(), Failed> {
         let answer = match self.clock.now() {
-            Ok(moment) => tell(&self.out, &show(moment), notice),
-            Err(Failed) => tell(&self.out, b"----------------Z".as_slice(), notice),
+            Ok(moment) => tell(&self.out, &show(moment), notice, sitter),
+            Err(Failed) => tell(&self.out, b"----------------Z".as_slice(), notice, sitter),
         };
         counted(answer, &mut self.faults)
     }

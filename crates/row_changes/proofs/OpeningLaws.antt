@@ -1,5 +1,5 @@
 -- A state that is judged on opening is that of a board.
-use Rattle.std.proofs.Common.{◌≡◌, ℕ, ◌+◌, ◌<◌, List, [], ◌∷◌, refl, subst, arith}
+use Rattle.std.proofs.Common.{◌≡◌, ℕ, ◌+◌, ◌<◌, List, [], ◌∷◌, Option, None, Some, refl, subst, arith}
 use Rattle.std.specs.List.{AllByRecursion}
 use Rattle.alerts.specs.declared.alert.Alert.{Alert}
 use Rattle.alerts.specs.Alerts.{IsAlert}
@@ -22,9 +22,22 @@ use Rattle.desk_state.proofs.Judging.{all_own, are_alerted, are_alerts}
 use Rattle.desk_state.proofs.OnceLaws.{none_once}
 use Rattle.desk_state.proofs.Parts.{more_valid}
 use Rattle.desk_state.proofs.SignatureLaws.{all_known, opened_signed}
+use Rattle.ops_tables.specs.Tables.{TableRows}
+use Rattle.records.specs.declared.record.Meta.{Meta}
+use Rattle.records.specs.declared.record.Record.{Record}
+use Rattle.row_changes.specs.Held.{meta_in, state_by, state_in}
 use Rattle.row_changes.specs.Opening.{MayReopen, counters_with, events_with, reopened}
 use Rattle.row_changes.proofs.ReopenedForms.{reopened_formed}
 use Rattle.desk_io.proofs.Each.{each_weaker}
+
+tables_by : (tables : TableRows) (found : Option Meta) (records : List Record) → (state_by tables found records).tables ≡ tables
+tables_by tables None records = refl
+tables_by tables (Some m) records = refl
+
+-- a desk opens with the tables that it is given
+pub reopened_tables : (tables : TableRows) (records : List Record) → (reopened (state_in tables records)).tables ≡ tables
+unfolding reopened state_in
+reopened_tables tables records = tables_by tables (meta_in records) records
 
 -- the changes of the alerts lead to those of the judgement
 pub changes_lead : (s : State) → AreJudgeable s → put_changes (alert_changes nothing s) s.alerts ≡ judged_all s

@@ -4,7 +4,7 @@ use crate::fault::CaseFault;
 use crate::members::{check_keys, items_of};
 use crate::objects::{bells_of, clock_of, door_of, keeper_of, sink_of};
 use crate::play::Play;
-use crate::playing::{Outside, play};
+use crate::playing::{Command, Devices, Outside, Played, play};
 use crate::report::Report;
 use crate::rows::{lines_of, rows_of};
 use crate::shelf::shelf_of;
@@ -36,27 +36,50 @@ const PARTS: [&str; 18] = [
     "gate",
 ];
 
+fn command_of<'a, F: Shelf>(play: &Play<'a>, files: &mut F) -> Result<Command, CaseFault<'a>> {
+    let words = words_of(play)?;
+    let shelf = shelf_of(play, files)?;
+    let sink = sink_of(play)?;
+    Ok(Command { words, shelf, sink })
+}
+
+fn devices_of<'a, F: Shelf>(
+    play: &Play<'a>,
+    files: &mut F,
+    rows: Vec<Row>,
+) -> Result<Devices, CaseFault<'a>> {
+    let keeper = keeper_of(play, rows)?;
+    let clock = clock_of(play)?;
+    let door = door_of(play, files)?;
+    let bells = bells_of(play)?;
+    Ok(Devices {
+        keeper,
+        clock,
+        door,
+        bells,
+    })
+}
+
 fn outside_of<'a, F: Shelf>(
     play: &Play<'a>,
     files: &mut F,
     rows: Vec<Row>,
 ) -> Result<Outside, CaseFault<'a>> {
-    let keeper = keeper_of(play, rows)?;
-    let words = words_of(play)?;
-    let shelf = shelf_of(play, files)?;
-    let sink = sink_of(play)?;
-    let clock = clock_of(play)?;
-    let door = door_of(play, files)?;
-    let bells = bells_of(play)?;
-    Ok(Outside {
-        words,
-        shelf,
-        sink,
-        clock,
-        keeper,
-        door,
-        bells,
-    })
+    let devices = devices_of(play, files, rows)?;
+    let command = command_of(play, files)?;
+    Ok(Outside { command, devices })
+}
+
+// Compares the results of a play, and returns the rows that are left.
+fn left_of<'a, F: Shelf>(
+    place: &Play<'a>,
+    files: &mut F,
+    before: &[u8],
+    played: &Played,
+    report: &mut Report<'_>,
+) -> Result<Vec<Row>, CaseFault<'a>> {
+    compare(place, files, before, played, report)?;
+    Ok(copied_items(played.keeper.rows(), place.alloc)?)
 }
 
 // Plays a case or a step over rows, and returns the rows that are left.
@@ -70,8 +93,7 @@ fn play_over<'a, R: Threads + Wait + Sync, F: Shelf>(
     let before = lines_of(place.alloc, &rows)?;
     let outside = outside_of(place, files, rows)?;
     let played = play(rt, place.alloc, outside);
-    compare(place, files, &before, &played, report)?;
-    Ok(copied_items(played.keeper.rows(), place.alloc)?)
+    left_of(place, files, &before, &played, report)
 }
 
 // The rows that the keeper holds at first.

@@ -83,6 +83,18 @@ fn line_at(text: &[u8], place: usize) -> Option<&[u8]> {
     text.split(is_line_feed).nth(place)
 }
 
+fn compare_lines(
+    play: &Play<'_>,
+    what: &str,
+    wanted: Option<&[u8]>,
+    came: Option<&[u8]>,
+    report: &mut Report<'_>,
+) -> Result<(), OutOfMemory> {
+    let wanted = shown(play.alloc, wanted)?;
+    let came = shown(play.alloc, came)?;
+    report.differs(play, what, wanted.as_str(), came.as_str())
+}
+
 // Compares a whole text, and reports the first line that differs.
 fn compare_text(
     play: &Play<'_>,
@@ -95,11 +107,10 @@ fn compare_text(
         return Ok(());
     }
     let place = same_lines(wanted, came);
+    let (wanted, came) = (line_at(wanted, place), line_at(came, place));
     let line = place.saturating_add(1);
     let what = format!(in play.alloc; "{what}, line {line}")?;
-    let wanted = shown(play.alloc, line_at(wanted, place))?;
-    let came = shown(play.alloc, line_at(came, place))?;
-    report.differs(play, what.as_str(), wanted.as_str(), came.as_str())
+    compare_lines(play, what.as_str(), wanted, came, report)
 }
 
 fn compare_first(
@@ -122,6 +133,26 @@ fn pair_of<'a>(play: &Play<'_>, pair: &'a Value) -> Option<(&'a Value, u64)> {
     }
 }
 
+fn shown_count(alloc: Global, count: u64, came: &[u8]) -> Result<String, OutOfMemory> {
+    let came = shown_front(alloc, came)?;
+    Ok(format!(in alloc; "{count} in {came}")?)
+}
+
+fn report_count(
+    play: &Play<'_>,
+    what: &str,
+    line: &[u8],
+    counts: (u64, u64),
+    came: &[u8],
+    report: &mut Report<'_>,
+) -> Result<(), OutOfMemory> {
+    let line = shown(play.alloc, Some(line))?;
+    let what = format!(in play.alloc; "{what}, count of {line}")?;
+    let wanted = counts.0.to_string(play.alloc)?;
+    let came = shown_count(play.alloc, counts.1, came)?;
+    report.differs(play, what.as_str(), wanted.as_str(), came.as_str())
+}
+
 fn compare_count(
     play: &Play<'_>,
     what: &str,
@@ -135,12 +166,7 @@ fn compare_count(
     if count == wanted.1 {
         return Ok(());
     }
-    let line = shown(play.alloc, Some(&line))?;
-    let what = format!(in play.alloc; "{what}, count of {line}")?;
-    let wanted = wanted.1.to_string(play.alloc)?;
-    let came = shown_front(play.alloc, came)?;
-    let came = format!(in play.alloc; "{count} in {came}")?;
-    report.differs(play, what.as_str(), wanted.as_str(), came.as_str())
+    report_count(play, what, &line, (wanted.1, count), came, report)
 }
 
 fn compare_counts<'a>(
@@ -264,11 +290,18 @@ fn compare_port(
 ) -> Result<(), OutOfMemory> {
     match port {
         None => compare_value(play, "port", "null", report),
-        Some(port) => {
-            let port = port.to_string(play.alloc)?;
-            compare_value(play, "port", port.as_str(), report)
-        }
+        Some(port) => compare_number(play, "port", u64::from(port), report),
     }
+}
+
+fn compare_number(
+    play: &Play<'_>,
+    key: &str,
+    came: u64,
+    report: &mut Report<'_>,
+) -> Result<(), OutOfMemory> {
+    let came = came.to_string(play.alloc)?;
+    compare_value(play, key, came.as_str(), report)
 }
 
 fn compare_values(
@@ -276,13 +309,11 @@ fn compare_values(
     played: &Played,
     report: &mut Report<'_>,
 ) -> Result<(), OutOfMemory> {
-    let status = played.status.to_string(play.alloc)?;
-    compare_value(play, "status", status.as_str(), report)?;
+    compare_number(play, "status", u64::from(played.status), report)?;
     let board = if played.board { "true" } else { "false" };
     compare_value(play, "board", board, report)?;
     compare_port(play, played.door.port(), report)?;
-    let asked = played.clock.given().to_string(play.alloc)?;
-    compare_value(play, "asked", asked.as_str(), report)
+    compare_number(play, "asked", played.clock.given(), report)
 }
 
 fn compare_link<'a, F: Shelf>(
@@ -407,14 +438,15 @@ fn compare_left<'a, F: Shelf>(
     play: &Play<'a>,
     files: &mut F,
     before: &[u8],
-    left: &[u8],
+    played: &Played,
     report: &mut Report<'_>,
 ) -> Result<(), CaseFault<'a>> {
+    let left = lines_of(play.alloc, played.keeper.rows())?;
     match play.part("left") {
         Some(wanted) if are_same(wanted) => {
-            Ok(compare_text(play, "left", before, left, report)?)
+            Ok(compare_text(play, "left", before, &left, report)?)
         }
-        _ => compare_at(play, files, "left", left, report),
+        _ => compare_at(play, files, "left", &left, report),
     }
 }
 
@@ -450,8 +482,7 @@ pub fn compare<'a, F: Shelf>(
     compare_made(play, played, report)?;
     compare_values(play, played, report)?;
     compare_at(play, files, "written", played.sink.written(), report)?;
-    let left = lines_of(play.alloc, played.keeper.rows())?;
-    compare_left(play, files, before, &left, report)?;
+    compare_left(play, files, before, played, report)?;
     compare_links(play, files, played.door.ended(), report)?;
     compare_dropped(play, played, report)?;
     compare_gate(play, played, report)?;

@@ -7,7 +7,9 @@ ghost use Rattle.desk_net.specs.InMemory.{clock_seen, door_seen, link_seen};
 use desk_io::{Change, Failed, MemoryShelf, OutOfMemory, PutFault, Record, Row, Shelf};
 use desk_net::{Clock, Door, Link, MemoryClock, MemoryDoor, MemoryLink, Passing};
 use desk_time::Minute;
-use keeper::{KeepFault, Keeper, MemoryKeeper};
+use keeper::{
+    AccountEntry, Committed, KeepFault, Keeper, Loaded, MemoryKeeper, NotLoaded, Outcome,
+};
 use std::alloc::Global;
 use std::sync::Arc;
 use std::sync::atomic::{AtomicBool, Ordering};
@@ -260,6 +262,7 @@ pub struct CaseKeeper {
     keeper: MemoryKeeper,
     loads: bool,
     commits: u64,
+    account: Record<AccountEntry>,
     faults: u64,
 }
 
@@ -270,6 +273,7 @@ impl CaseKeeper {
             keeper,
             loads,
             commits: 0,
+            account: Record::new(),
             faults: 0,
         }
     }
@@ -281,23 +285,59 @@ impl CaseKeeper {
 }
 
 impl Keeper for CaseKeeper {
-    ghost seen = { λ k. record { rows = None; commits = k.commits; health = unsound k.faults } };
+    ghost seen = { λ k. record {
+      rows = None;
+      commits = k.commits;
+      account = k.account.list;
+      health = unsound k.faults;
+    } };
 
+    #[tactic(auto, using(keeper::proofs::SeenLaws::grows_one))]
     fn load(&mut self, alloc: Global) -> Result<Vec<Row>, KeepFault> {
-        if self.loads {
-            return self.keeper.load(alloc);
+        if !self.loads {
+            self.faults = self.faults.saturating_add(1);
+            self.account = self.account.with(&NotLoaded);
+            return Err(KeepFault::Failed);
         }
-        self.faults = self.faults.saturating_add(1);
-        Err(KeepFault::Failed)
+        match self.keeper.load(alloc) {
+            Ok(rows) => {
+                self.account = self.account.with(&Loaded { rows: &rows });
+                Ok(rows)
+            }
+            Err(fault) => {
+                self.account = self.account.with(&NotLoaded);
+                Err(fault)
+            }
+        }
     }
 
+    #[tactic(auto, using(keeper::proofs::AccountLaws::fails_refused, keeper::proofs::SeenLaws::grows_one))]
     fn commit(&mut self, alloc: Global, changes: &[Change]) -> Result<(), KeepFault> {
         self.commits = self.commits.saturating_add(1);
-        let kept = self.keeper.commit(alloc, changes);
-        if kept == Err(KeepFault::Failed) {
-            self.faults = self.faults.saturating_add(1);
+        match self.keeper.commit(alloc, changes) {
+            Ok(()) => {
+                self.account = self.account.with(&Committed {
+                    changes,
+                    outcome: Outcome::Done,
+                });
+                Ok(())
+            }
+            Err(KeepFault::OutOfMemory) => {
+                self.account = self.account.with(&Committed {
+                    changes,
+                    outcome: Outcome::Refused,
+                });
+                Err(KeepFault::OutOfMemory)
+            }
+            Err(KeepFault::Failed) => {
+                self.faults = self.faults.saturating_add(1);
+                self.account = self.account.with(&Committed {
+                    changes,
+                    outcome: Outcome::Refused,
+                });
+                Err(KeepFault::Failed)
+            }
         }
-        kept
     }
 
     fn faults(&self) -> u64 {

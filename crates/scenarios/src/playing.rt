@@ -9,16 +9,28 @@ use std::alloc::Global;
 use std::sync::Wait;
 use std::thread::Threads;
 
-/// The arguments and the objects with which the program is called.
+/// The arguments, the files and the output of a call.
 #[derive(Drop)]
-pub struct Outside {
+pub struct Command {
     pub words: Vec<String>,
     pub shelf: CaseShelf,
     pub sink: MemorySink,
-    pub clock: CaseClock,
+}
+
+/// The objects that a call takes and returns.
+#[derive(Drop)]
+pub struct Devices {
     pub keeper: CaseKeeper,
+    pub clock: CaseClock,
     pub door: CaseDoor,
     pub bells: Vec<MemoryBell>,
+}
+
+/// All with which the program is called.
+#[derive(Drop)]
+pub struct Outside {
+    pub command: Command,
+    pub devices: Devices,
 }
 
 /// The exit status of the program, whether a board is left, and the objects after the call.
@@ -57,7 +69,7 @@ fn came_of<
     C: Clock + Send + Drop,
     K: Keeper + Send,
     B: Bell + Send + Drop,
-    D: Door + Drop,
+    D: Door + Drop + Send,
     G: Gate + Sync,
 >(
     rt: &R,
@@ -97,17 +109,20 @@ where
 }
 
 /// Calls the program over objects in memory.
-#[tactic(auto, using(alerts::proofs::Crossing::MemoryBell_send))]
+#[tactic(auto, using(alerts::proofs::Crossing::MemoryBell_send, desk_net::proofs::Crossing::MemoryDoor_send))]
 pub fn play<R: Threads + Wait + Sync>(rt: &R, alloc: Global, outside: Outside) -> Played {
-    let Outside {
+    let Outside { command, devices } = outside;
+    let Command {
         words,
         mut shelf,
         mut sink,
-        clock,
+    } = command;
+    let Devices {
         keeper,
+        clock,
         door,
         bells,
-    } = outside;
+    } = devices;
     let gate = GateThatCounts::new();
     let Came {
         status,

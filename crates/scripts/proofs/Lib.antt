@@ -10,7 +10,6 @@ pub mod Answering
 pub mod SoFar
 pub mod Looping
 pub mod OneLane
-pub mod ToldLaws
 pub mod TellingLaws
 pub mod RosterLaws
 pub mod RunLaws

@@ -20,7 +20,7 @@ use Rattle.desk_state.specs.declared.lanes.Item.TheVariants as kind
 use Rattle.relief.specs.Seated.{Told, told_under}
 use Rattle.relief.specs.declared.lines.RosterLine.{RosterLine}
 use Rattle.scripts.proofs.OneLane.{none_after, quiet_state}
-use Rattle.scripts.proofs.ToldLaws.{made_tells, ticked_tells}
+use Rattle.desk.proofs.HeardLaws.{made_tells, ticked_tells}
 use Rattle.scripts.specs.Routes.{Placed}
 use Rattle.scripts.specs.ShiftRuns.{notices_in, told_of, told_with}
 

@@ -6,7 +6,7 @@ pub use Rattle.desk.specs.InPart.{AreGivenInPart, IsRunInPart}
 pub use Rattle.desk.specs.Items.{items_of_lines}
 pub use Rattle.desk.specs.Keeping.{Choice, KeepsState, after_with, numbers_of}
 pub use Rattle.desk.specs.Made.{IsMade, IsMadeInPart, made_items}
-pub use Rattle.desk.specs.Opening.{AreAsked, AreLoaded, IsLeft, IsOfKeeper, IsOpened, IsWhy, MayHaveAsked, OnLoaded, TellsRowsOf, board_of}
+pub use Rattle.desk.specs.Opening.{AreAsked, AreLoaded, IsEntered, IsLeft, IsOfKeeper, IsOpened, IsWhy, MayHaveAsked, NotEntered, OnLoaded, OpensOver, TellsRowsOf, board_of}
 pub use Rattle.desk.specs.Race.{IsRace, IsRaceInPart}
 pub use Rattle.desk.specs.Run.{IsRun, IsRunOf, items_of, lines_of}
 pub use Rattle.desk.specs.Seen.{DeskAt, DeskGoesOn, desk_at, desk_seen}

@@ -27,6 +27,7 @@ use Rattle.desk_state.specs.declared.entry.What.{What}
 use Rattle.desk_state.specs.declared.entry.What.TheVariants as what
 use Rattle.desk_time.specs.Limits.{IsMoment}
 use Rattle.ops_tables.specs.Tables.{actor_of}
+use Rattle.service.specs.Shared.{AreTakenFrom, tick_in, ticks_in}
 use Rattle.service.specs.Turns.{number_in_refusal, number_in_reply, unkept_in}
 
 -- ---- what is added
@@ -36,12 +37,13 @@ abbrev pub IsTickTo : ℕ → What → Type 0
 IsTickTo at (what.Tick to) = to ≡ at
 IsTickTo at (what.Asked call reply) = Unit {0}
 
--- the history goes on with entries of the lane, of which ticks are to that moment
-pub record Grows (lane at : ℕ) (s t : State) : Type 0 where
+-- The history goes on with entries of the lane, of which ticks are to that moment. Each takes one of these answers.
+pub record Grows (lane at : ℕ) (asked : List (Option ℕ)) (s t : State) : Type 0 where
   pub more : List Entry
   pub grown : t.entries ≡ s.entries ++ more
   pub lanes : AllByRecursion (λ e. e.lane ≡ lane) more
   pub ticks : AllByRecursion (λ e. IsTickTo at e.what) more
+  pub taken : AreTakenFrom asked (ticks_in more)
 
 -- at most the tick to that moment, in the lane
 pub record Ticks (lane at : ℕ) (s t : State) : Type 0 where
@@ -51,19 +53,47 @@ pub record Ticks (lane at : ℕ) (s t : State) : Type 0 where
   pub few : length more ≤ 1
   pub only : AllByRecursion (λ e. e.what ≡ what.Tick at) more
 
-stays : (lane at : ℕ) (s : State) → Grows lane at s s
-stays lane at s = record { more = []; grown = sym (append-nil s.entries); lanes = tt; ticks = tt }
+stays : (lane at : ℕ) (asked : List (Option ℕ)) (s : State) → Grows lane at asked s s
+stays lane at asked s = record { more = []; grown = sym (append-nil s.entries); lanes = tt; ticks = tt; taken = tt }
 
 pub all_both : (P : Entry → Type 0) (xs ys : List Entry) → AllByRecursion P xs → AllByRecursion P ys → AllByRecursion P (xs ++ ys)
 all_both P [] ys one two = two
 all_both P (x ∷ xs) ys one two = (one.0, all_both P xs ys one.1 two)
 
-grows_on : (lane at : ℕ) (s t u : State) → Grows lane at s t → Grows lane at t u → Grows lane at s u
-grows_on lane at s t u one two = record {
+-- ---- the clock's answers
+
+taken_later : (front answers : List (Option ℕ)) (moments : List ℕ) → AreTakenFrom answers moments → AreTakenFrom (front ++ answers) moments
+taken_later front answers [] taken = tt
+taken_later front answers (at ∷ moments) taken =
+    (front ++ taken.0, taken.1, ap (λ l. front ++ l) taken.2 ∙ sym (append_assoc front taken.0 (Some at ∷ taken.1)), taken.3)
+
+-- moments of some answers, and of answers after these
+taken_both : (asked later : List (Option ℕ)) (ones twos : List ℕ) → AreTakenFrom asked ones → AreTakenFrom later twos → AreTakenFrom (asked ++ later) (ones ++ twos)
+taken_both asked later [] twos one two = taken_later asked later twos two
+taken_both asked later (at ∷ ones) twos one two =
+    (one.0, one.1 ++ later, ap (λ l. l ++ later) one.2 ∙ append_assoc one.0 (Some at ∷ one.1) later, taken_both one.1 later ones twos one.3 two)
+
+ticks_in-append : (xs ys : List Entry) → ticks_in (xs ++ ys) ≡ ticks_in xs ++ ticks_in ys
+ticks_in-append [] ys = refl
+ticks_in-append (x ∷ xs) ys = ap (λ l. tick_in x.what ++ l) (ticks_in-append xs ys) ∙ sym (append_assoc (tick_in x.what) (ticks_in xs) (ticks_in ys))
+
+pub taken_on : (asked later : List (Option ℕ)) (xs ys : List Entry) → AreTakenFrom asked (ticks_in xs) → AreTakenFrom later (ticks_in ys) → AreTakenFrom (asked ++ later) (ticks_in (xs ++ ys))
+taken_on asked later xs ys one two = subst (AreTakenFrom (asked ++ later)) (sym (ticks_in-append xs ys)) (taken_both asked later (ticks_in xs) (ticks_in ys) one two)
+
+-- at most one tick takes the one answer
+pub taken_once : (at : ℕ) (es : List Entry) → length es ≤ 1 → AllByRecursion (λ e. e.what ≡ what.Tick at) es → AreTakenFrom (Some at ∷ []) (ticks_in es)
+taken_once at [] few only = tt
+taken_once at (e ∷ []) few only =
+    let taken : AreTakenFrom (Some at ∷ []) (at ∷ []) = ([], [], refl, tt) in subst (λ (w : What). AreTakenFrom (Some at ∷ []) (tick_in w ++ [])) (sym only.0) taken
+taken_once at (e ∷ f ∷ es) few only = absurd (omega (arith, few))
+
+grows_on : (lane at : ℕ) (asked later : List (Option ℕ)) (s t u : State) → Grows lane at asked s t → Grows lane at later t u → Grows lane at (asked ++ later) s u
+grows_on lane at asked later s t u one two = record {
   more = one.more ++ two.more;
   grown = two.grown ∙ (ap (λ es. es ++ two.more) one.grown ∙ append_assoc s.entries one.more two.more);
   lanes = all_both (λ e. e.lane ≡ lane) one.more two.more one.lanes two.lanes;
   ticks = all_both (λ e. IsTickTo at e.what) one.more two.more one.ticks two.ticks;
+  taken = taken_on asked later one.more two.more one.taken two.taken;
 }
 
 ticks_by : (full : Bool) (lane at : ℕ) (s : State) → Ticks lane at s (tick_unless full s lane at).state
@@ -78,29 +108,30 @@ pub ticks_to : (at : ℕ) (es : List Entry) → AllByRecursion (λ e. e.what ≡
 ticks_to at [] all = tt
 ticks_to at (e ∷ es) all = (subst (IsTickTo at) (sym all.0) refl, ticks_to at es all.1)
 
-ticks_grow : (lane at : ℕ) (s t : State) → Ticks lane at s t → Grows lane at s t
-ticks_grow lane at s t ticks = record { more = ticks.more; grown = ticks.grown; lanes = ticks.lanes; ticks = ticks_to at ticks.more ticks.only }
+ticks_grow : (lane at : ℕ) (s t : State) → Ticks lane at s t → Grows lane at (Some at ∷ []) s t
+ticks_grow lane at s t ticks =
+    record { more = ticks.more; grown = ticks.grown; lanes = ticks.lanes; ticks = ticks_to at ticks.more ticks.only; taken = taken_once at ticks.more ticks.few ticks.only }
 
-entered_grows : (full : Bool) (lane at : ℕ) (s : State) (call : Call) (made : DoneType) (effect : Effect) → Grows lane at s (enter full s lane call made effect).state
-entered_grows true lane at s call made effect = stays lane at s
-entered_grows false lane at s call made effect = record { more = _ ∷ []; grown = refl; lanes = (refl, tt); ticks = (tt, tt) }
+entered_grows : (full : Bool) (lane at : ℕ) (asked : List (Option ℕ)) (s : State) (call : Call) (made : DoneType) (effect : Effect) → Grows lane at asked s (enter full s lane call made effect).state
+entered_grows true lane at asked s call made effect = stays lane at asked s
+entered_grows false lane at asked s call made effect = record { more = _ ∷ []; grown = refl; lanes = (refl, tt); ticks = (tt, tt); taken = tt }
 
-finished_grows : (decision : Result Decision Refusal) (lane at : ℕ) (s : State) (call : Call) → Grows lane at s (finish s lane call decision).state
-finished_grows (Err why) lane at s call = stays lane at s
-finished_grows (Ok (Show reply)) lane at s call = stays lane at s
-finished_grows (Ok (Do made effect)) lane at s call = entered_grows (is_full_for s call.ask) lane at s call made effect
+finished_grows : (decision : Result Decision Refusal) (lane at : ℕ) (asked : List (Option ℕ)) (s : State) (call : Call) → Grows lane at asked s (finish s lane call decision).state
+finished_grows (Err why) lane at asked s call = stays lane at asked s
+finished_grows (Ok (Show reply)) lane at asked s call = stays lane at asked s
+finished_grows (Ok (Do made effect)) lane at asked s call = entered_grows (is_full_for s call.ask) lane at asked s call made effect
 
-done_grows : (lane at : ℕ) (s : State) (call : Call) → Grows lane at s (do_call s lane call).state
+done_grows : (lane at : ℕ) (asked : List (Option ℕ)) (s : State) (call : Call) → Grows lane at asked s (do_call s lane call).state
 unfolding do_call
-done_grows lane at s call = finished_grows (decide s call) lane at s call
+done_grows lane at asked s call = finished_grows (decide s call) lane at asked s call
 
-unless_grows : (why : Option Refusal) (lane at : ℕ) (s : State) (call : Call) → Grows lane at s (do_unless why s lane call).state
-unless_grows None lane at s call = done_grows lane at s call
-unless_grows (Some why) lane at s call = stays lane at s
+unless_grows : (why : Option Refusal) (lane at : ℕ) (asked : List (Option ℕ)) (s : State) (call : Call) → Grows lane at asked s (do_unless why s lane call).state
+unless_grows None lane at asked s call = done_grows lane at asked s call
+unless_grows (Some why) lane at asked s call = stays lane at asked s
 
-called_grows : (lane at : ℕ) (s : State) (call : Call) → Grows lane at s (answer_call s lane call).state
+called_grows : (lane at : ℕ) (asked : List (Option ℕ)) (s : State) (call : Call) → Grows lane at asked s (answer_call s lane call).state
 unfolding answer_call
-called_grows lane at s call = unless_grows (mistaken (actor_of s.tables call.actor) call.key) lane at s call
+called_grows lane at asked s call = unless_grows (mistaken (actor_of s.tables call.actor) call.key) lane at asked s call
 
 -- what holds of a state, and of the one that a step leads to, holds of the one after it, kept or not
 kept_if : (P : State → Type 0) (b : Bool) (n : ℕ) (s : State) (t : Stepped) → P s → P t.state → P (unkept_if b n s t).state
@@ -111,22 +142,22 @@ kept_has : (P : State → Type 0) (fault : Option ℕ) (s : State) (t : Stepped)
 kept_has P None s t before after = after
 kept_has P (Some n) s t before after = kept_if P (adds s t) n s t before after
 
-made_grows : (fault : Option ℕ) (lane at : ℕ) (s : State) (call : Call) → Grows lane at s (made_with fault lane s call).state
-made_grows fault lane at s call = kept_has (Grows lane at s) fault s (answer_call s lane call) (stays lane at s) (called_grows lane at s call)
+made_grows : (fault : Option ℕ) (lane at : ℕ) (asked : List (Option ℕ)) (s : State) (call : Call) → Grows lane at asked s (made_with fault lane s call).state
+made_grows fault lane at asked s call = kept_has (Grows lane at asked s) fault s (answer_call s lane call) (stays lane at asked s) (called_grows lane at asked s call)
 
-once_grows : (fault : Option ℕ) (lane at : ℕ) (reply : Option Reply) (s : State) (call : Call) → Grows lane at s (once_ticked fault lane reply s call).state
-once_grows fault lane at (Some reply) s call = stays lane at s
-once_grows fault lane at None s call = made_grows fault lane at s call
+once_grows : (fault : Option ℕ) (lane at : ℕ) (reply : Option Reply) (s : State) (call : Call) → Grows lane at [] s (once_ticked fault lane reply s call).state
+once_grows fault lane at (Some reply) s call = stays lane at [] s
+once_grows fault lane at None s call = made_grows fault lane at [] s call
 
-answer_by : (later : Bool) (c : Choice) (lane : ℕ) (s : State) (at : ℕ) (call : Call) → Grows lane at s (made_by later c lane s at call).state
+answer_by : (later : Bool) (c : Choice) (lane : ℕ) (s : State) (at : ℕ) (call : Call) → Grows lane at (Some at ∷ []) s (made_by later c lane s at call).state
 answer_by true c lane s at call =
     let t = ticked_with c.tick lane s at in
-    grows_on lane at s t.state (once_ticked c.call lane t.reply t.state call).state
-    (kept_has (Grows lane at s) c.tick s (tick_to s lane at) (stays lane at s) (ticks_grow lane at s (tick_to s lane at).state (tick_ticks lane at s)))
+    grows_on lane at (Some at ∷ []) [] s t.state (once_ticked c.call lane t.reply t.state call).state
+    (kept_has (Grows lane at (Some at ∷ []) s) c.tick s (tick_to s lane at) (stays lane at (Some at ∷ []) s) (ticks_grow lane at s (tick_to s lane at).state (tick_ticks lane at s)))
     (once_grows c.call lane at t.reply t.state call)
-answer_by false c lane s at call = made_grows c.call lane at s call
+answer_by false c lane s at call = made_grows c.call lane at (Some at ∷ []) s call
 
-pub answer_grows : (c : Choice) (lane : ℕ) (s : State) (at : ℕ) (call : Call) → Grows lane at s (answer_with c lane s at call).state
+pub answer_grows : (c : Choice) (lane : ℕ) (s : State) (at : ℕ) (call : Call) → Grows lane at (Some at ∷ []) s (answer_with c lane s at call).state
 unfolding answer_with
 answer_grows c lane s at call = answer_by (nat_lt s.moment at) c lane s at call
 

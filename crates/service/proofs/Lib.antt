@@ -9,3 +9,5 @@ pub mod DeskLaws
 pub mod SharedLaws
 pub mod RunLaws
 pub mod Crossing
+pub mod MinuteLaws
+pub mod StayingLaws

@@ -3,6 +3,7 @@ use Rattle.std.proofs.Common.{◌≡◌, ◌≢◌, ◌⊎◌, inl, inr, ⊎_eli
 use Rattle.std.specs.List.{AllByRecursion, list_any}
 use Rattle.std.proofs.lemmas.Bool.{or_parts, or_right}
 use Rattle.std.proofs.lemmas.List.Folds.{list_any-append}
+use Rattle.connections.specs.Crossed.{Crosses, IsConnectionBy}
 use Rattle.connections.specs.Connections.{Answered, ClockFailed, EndsConnection, IsConnection, Kind, Last}
 use Rattle.connections.specs.Doors.{EndsServing, IsWell, Visit, ended_by_clock, is_clock_fault}
 use Rattle.connections.specs.Rounds.{AreInTurns, ComesAfter, GoesBefore, HasServed, IsInTurns}
@@ -40,6 +41,9 @@ pub served_ended : {L : Type 0} (link : L → LinkSeen) (opening : State) (clock
     → IsServedInTurns link opening clock lane before seen came mid how → IsServedInTurns link opening clock lane before seen came went how
 served_ended link opening clock lane before seen came mid went how same is = record {
   answered = subst (λ (l : LinkSeen). Wrote (link came).stream l.stream (IsConnection (in_lane lane) (GoesInTurns opening clock.dial lane before seen) (HasFailed (link came).health l.health) (unread (link came).stream) (unread l.stream) how)) (sym same) is.answered;
+  crossed =
+      subst (λ (l : LinkSeen). Crosses (link came).crossed l.crossed (IsConnectionBy (in_lane lane) (GoesInTurns opening clock.dial lane before seen) (HasFailed (link came).health l.health) how))
+      (sym same) is.crossed;
   goes_on = subst (λ (l : LinkSeen). LinkGoesOn (link came) l) (sym same) is.goes_on;
   steady = is.steady;
 }
@@ -271,6 +275,7 @@ serving_is {L} link door desk clock s port most end opened since served =
       timely = since.timely;
       counted = since.counted;
       timed = since.timed;
+      clocked = since.clocked;
       well = λ is.
           let well : (length vs ≡ most) × AllByRecursion IsWell vs = subst (λ (e : ServeEnd). EndsServing rose most vs e) is served.ends in
           no_faults s.misses (sym same ∙ served_well link desk.opening clock door (events_in s) port most end served well.1);
@@ -306,6 +311,7 @@ serving_from link door clock desk port most end less under is = record {
   timely = is.timely;
   counted = is.counted;
   timed = is.timed;
+  clocked = is.clocked;
   well = is.well;
   by_clock = is.by_clock;
 }

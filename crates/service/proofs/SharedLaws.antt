@@ -22,7 +22,7 @@ use Rattle.desk_state.specs.declared.entry.What.TheVariants as what
 use Rattle.turn_lock.specs.Elements.{Continues, EachBears, elements_of}
 use Rattle.turn_lock.proofs.ElementLaws.{elements_of-append, prefix_trans}
 use Rattle.service.specs.Events.{after_entries, are_ordered, entered, entries_in, faults_of, is_of, lane_of, last_or, merged, miss, missed, state_at}
-use Rattle.service.specs.Shared.{IsSharedSince, IsTimed, IsTold, SharedSeen, events_in}
+use Rattle.service.specs.Shared.{AreTakenFrom, IsClocked, IsSharedSince, IsTimed, IsTold, SharedSeen, events_in, ticks_in}
 use Rattle.service.specs.Turns.{AnsweredOnce, AnswersInTurn, ComesOnce, FindsNoMemory, GoesInTurn, MissedOnce, MissesClock, TickedOnce, added_at, added_by, IsTickTold, entries_since, missed_by, missed_with, said_in, unkept_in}
 use Rattle.connections.specs.declared.answers.Unanswered.{Unanswered}
 use Rattle.connections.specs.declared.answers.Unanswered.TheVariants.{ClockFault, OutOfMemory}
@@ -30,7 +30,7 @@ use Rattle.service.specs.declared.misses.Event.{Event}
 use Rattle.service.specs.declared.misses.Miss.{Miss}
 use Rattle.service.specs.declared.misses.MissOf.{MissOf}
 use Rattle.service.specs.declared.misses.MissOf.TheVariants as of
-use Rattle.service.proofs.DeskLaws.{IsTickTo, Ticks, all_both, answer_grows, tick_grows, ticks_to, told_rises}
+use Rattle.service.proofs.DeskLaws.{IsTickTo, Ticks, all_both, answer_grows, taken_on, taken_once, tick_grows, ticks_to, told_rises}
 use Rattle.service.proofs.EventLaws.{after_entries-legal, bear_both, drop-seam, elements_of-each, entered_bear, entries_in-merged, from_zero, merged-entries, merged-misses, ordered_longer, take-seam}
 
 -- ---- numbers that rise
@@ -168,6 +168,7 @@ just_opened desk clock opened none = record {
   timely = omega arith;
   counted = refl;
   timed = subst (λ (es : List Entry). AllByRecursion (λ e. IsTimed clock.dial e.what) es) (sym none) tt;
+  clocked = record { asked = []; answers = sym (append-nil clock.answers); taken = subst (λ (es : List Entry). AreTakenFrom [] (ticks_in es)) (sym none) tt };
   small = subst (λ (es : List Entry). length es + 0 < 2 ^ 63) (sym none) (omega arith);
 }
 
@@ -189,11 +190,20 @@ pub record HasBoards (old new : SharedSeen) : Type 0 where
   pub clock : ClockGoesOn old.clock new.clock
   pub few : length old.misses < 2 ^ 62
 
+-- the answers to the calls of a turn come after the earlier ones
+clocked_on : (first old new asked : List (Option ℕ)) (before after more : List Entry) → IsClocked first old before → new ≡ old ++ asked → after ≡ before ++ more → AreTakenFrom asked (ticks_in more)
+    → IsClocked first new after
+clocked_on first old new asked before after more clocked answered grown taken = record {
+  asked = clocked.asked ++ asked;
+  answers = answered ∙ (ap (λ l. l ++ asked) clocked.answers ∙ append_assoc first clocked.asked asked);
+  taken = subst (λ (es : List Entry). AreTakenFrom (clocked.asked ++ asked) (ticks_in es)) (sym grown) (taken_on clocked.asked asked before more clocked.taken taken);
+}
+
 shared_on : (desk : DeskSeen) (clock : ClockSeen) (lane : ℕ) (old new : SharedSeen) (more : List Entry) (ms : List Miss) → IsSharedSince desk clock old → HasBoards old new
     → IsAdded lane old new more ms → Rise old.desk.keeper.health.faults (faults_of of.Keeper ms) new.desk.keeper.health.faults
     → Rise old.clock.health.faults (faults_of of.Clock ms) new.clock.health.faults → new.clock.health.faults ≡ last_or old.clock.health.faults (faults_of of.Clock ms)
-    → AllByRecursion (λ e. IsTimed clock.dial e.what) more → IsSharedSince desk clock new
-shared_on desk clock lane old new more ms since boards added kept timely counted timed =
+    → AllByRecursion (λ e. IsTimed clock.dial e.what) more → (asked : List (Option ℕ)) → new.clock.answers ≡ old.clock.answers ++ asked → AreTakenFrom asked (ticks_in more) → IsSharedSince desk clock new
+shared_on desk clock lane old new more ms since boards added kept timely counted timed asked answered taken =
     let desk_goes = desk_on desk old.desk new.desk since.desk_on boards.desk in
     let bound = boards.after.kept.entries in
     let few = boards.few in
@@ -213,6 +223,7 @@ shared_on desk clock lane old new more ms since boards added kept timely counted
           ∙ (sym (last_on clock.health.faults (faults_of of.Clock old.misses) (faults_of of.Clock ms))
           ∙ ap (last_or clock.health.faults) (sym (ap (faults_of of.Clock) added.misses ∙ faults_of-append of.Clock old.misses ms)));
       timed = subst (λ (l : List Entry). AllByRecursion (λ e. IsTimed clock.dial e.what) l) (sym added.entries) (all_both (λ e. IsTimed clock.dial e.what) old.desk.state.entries more since.timed timed);
+      clocked = clocked_on clock.answers old.clock.answers new.clock.answers asked old.desk.state.entries new.desk.state.entries more since.clocked answered added.entries taken;
       small = omega (arith, bound, few, one, ap length added.misses, length-append old.misses ms);
     }
 
@@ -231,12 +242,14 @@ answered_on desk clock lane call old new says since boards still a =
     (subst (λ (l : List ℕ). Rise old.desk.keeper.health.faults l new.desk.keeper.health.faults) (ap (λ o. option_to_list (unkept_in o)) (sym a.its_outcome) ∙ sym own.0) rises)
     (subst (λ (l : List ℕ). Rise old.clock.health.faults l new.clock.health.faults) (sym own.1) later) (still ∙ ap (last_or old.clock.health.faults) (sym own.1))
     (all_timed clock.dial a.at grows.more (told_by clock.dial old.clock.dial a.at since.clock_on.dial a.stood) grows.ticks)
+    (Some a.at ∷ []) a.asked grows.taken
 
 missed_on : (desk : DeskSeen) (clock : ClockSeen) (lane : ℕ) (old new : SharedSeen) → IsSharedSince desk clock old → HasBoards old new → MissesClock lane old new → IsSharedSince desk clock new
 missed_on desk clock lane old new since boards m =
     let later = boards.desk.keeper.health.later in
     let rose = m.rose in
     shared_on desk clock lane old new [] (miss lane (length old.desk.state.entries) of.Clock new.clock.health.faults ∷ []) since boards (miss_added lane old new m) later (rose, omega arith) refl tt
+    (None ∷ []) m.asked tt
 
 memory_on : (desk : DeskSeen) (clock : ClockSeen) (lane : ℕ) (old new : SharedSeen) → IsSharedSince desk clock old → HasBoards old new → IsStill old.clock.health new.clock.health → FindsNoMemory lane old new
     → IsSharedSince desk clock new
@@ -245,12 +258,14 @@ memory_on desk clock lane old new since boards still none =
     let ticking = boards.clock.health.later in
     ⊎_elim
     (λ stays.
-    let grows = stays_grown lane 0 old.desk.state new.desk.state stays.1 in shared_on desk clock lane old new [] [] since boards (none_added lane 0 old new grows none.its_misses) later ticking still tt)
+    let grows = stays_grown lane 0 old.desk.state new.desk.state stays.1 in
+    shared_on desk clock lane old new [] [] since boards (none_added lane 0 old new grows none.its_misses) later ticking still tt [] (stays.2 ∙ sym (append-nil old.clock.answers)) tt)
     (λ ticked.
     let at = ticked.0 in
     let grows = tick_grows lane at old.desk.state new.desk.state ticked.4 in
     shared_on desk clock lane old new grows.more [] since boards (none_added lane at old new grows none.its_misses) later ticking still
-    (all_timed clock.dial at grows.more (told_by clock.dial old.clock.dial at since.clock_on.dial ticked.2) (ticks_to at grows.more grows.only)))
+    (all_timed clock.dial at grows.more (told_by clock.dial old.clock.dial at since.clock_on.dial ticked.2) (ticks_to at grows.more grows.only))
+    (Some at ∷ []) ticked.5 (taken_once at grows.more grows.few grows.only))
     none.either
 
 -- whatever a call comes to

@@ -2,6 +2,7 @@
 use Rattle.std.specs.Prelude.{◌≡◌, ◌≢◌, ℕ, true, List, [], length}
 use Rattle.std.specs.List.{AllByRecursion}
 use Rattle.connections.specs.Connections.{IsConnection}
+use Rattle.connections.specs.Crossed.{Crosses, IsConnectionBy}
 use Rattle.connections.specs.Rounds.{HasServed}
 use Rattle.connections.specs.Writing.{Wrote}
 use Rattle.connections.specs.declared.doors.ServeEnd.{ServeEnd}
@@ -19,7 +20,7 @@ use Rattle.desk_state.specs.State.{State}
 use Rattle.service.specs.Connections.{in_lane}
 use Rattle.service.specs.Turning.{GoesInTurns}
 use Rattle.service.specs.Events.{are_ordered, faults_of, lane_of, last_or, merged}
-use Rattle.service.specs.Shared.{IsTimed}
+use Rattle.service.specs.Shared.{IsClocked, IsTimed}
 use Rattle.service.specs.declared.misses.Event.{Event}
 use Rattle.service.specs.declared.misses.Miss.{Miss}
 use Rattle.service.specs.declared.misses.MissOf.TheVariants as of
@@ -30,6 +31,9 @@ pub record IsServedInTurns {L : Type 0} (link : L → LinkSeen) (opening : State
   pub answered :
       Wrote (link came).stream (link went).stream
       (IsConnection (in_lane lane) (GoesInTurns opening clock.dial lane before seen) (HasFailed (link came).health (link went).health) (unread (link came).stream) (unread (link went).stream) how)
+  -- the same of every link, by the record of what crossed it
+  pub crossed :
+      Crosses (link came).crossed (link went).crossed (IsConnectionBy (in_lane lane) (GoesInTurns opening clock.dial lane before seen) (HasFailed (link came).health (link went).health) how)
   pub goes_on : LinkGoesOn (link came) (link went)
   -- a clock that was sound at the opening ends no connection
   pub steady : IsSound clock.health → how ≢ served.ClockFault
@@ -47,6 +51,8 @@ pub record IsServing {L : Type 0} (link : L → LinkSeen) (door : Over (DoorSeen
   pub timely : Rise clock.before.health.faults (faults_of of.Clock misses) clock.after.health.faults
   pub counted : clock.after.health.faults ≡ last_or clock.before.health.faults (faults_of of.Clock misses)
   pub timed : AllByRecursion (λ e. IsTimed clock.before.dial e.what) desk.after.state.entries
+  -- by the record of the clock: each tick takes an answer of its own, in the order in which they came
+  pub clocked : IsClocked clock.before.answers clock.after.answers desk.after.state.entries
   -- If the serving ended with `Done`, the clock missed nothing. `ClockFault` is reported only if the clock failed and
   -- missed something.
   pub well : end ≡ ends.Done → faults_of of.Clock misses ≡ []

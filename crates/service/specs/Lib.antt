@@ -11,3 +11,5 @@ pub mod Opened
 pub mod Shared
 pub mod Turns
 pub mod Runs
+pub mod Minutes
+pub mod Staying

@@ -34,7 +34,7 @@ no_tables = record {
 }
 
 abbrev pub no_desk : DeskSeen
-no_desk = record { opening = start no_tables; state = start no_tables; keeper = record { rows = None; commits = 0; health = unsound 0 }; bells = []; listed = false }
+no_desk = record { opening = start no_tables; state = start no_tables; keeper = record { rows = None; commits = 0; account = []; health = unsound 0 }; bells = []; listed = false }
 
 abbrev pub no_clock : ClockSeen
 no_clock = record { dial = None; answers = []; health = unsound 0 }

@@ -1,5 +1,5 @@
 -- The model of a shared desk in contracts, and what holds of it at every turn.
-use Rattle.std.specs.Prelude.{◌≡◌, ℕ, ◌+◌, ◌^◌, ◌<◌, true, List, length, Option, None, Some}
+use Rattle.std.specs.Prelude.{◌≡◌, ℕ, ◌+◌, ◌^◌, ◌<◌, true, List, [], ◌∷◌, ◌++◌, length, Option, None, Some}
 use Rattle.std.specs.List.{AllByRecursion}
 use Rattle.alerts.specs.Seen.{BellSeen}
 use Rattle.desk.specs.Keeping.{Rise}
@@ -8,6 +8,7 @@ use Rattle.desk.specs.declared.settling.Desk.{Desk}
 use Rattle.desk_net.specs.Clocks.{Dial, StandsAt, dial}
 use Rattle.desk_net.specs.Seen.{ClockGoesOn, ClockSeen}
 use Rattle.desk_state.specs.Legal.{Legal}
+use Rattle.desk_state.specs.declared.entry.Entry.{Entry}
 use Rattle.desk_state.specs.declared.entry.What.{What}
 use Rattle.desk_state.specs.declared.entry.What.TheVariants as what
 use Rattle.keeper.specs.Seen.{KeeperSeen}
@@ -51,6 +52,30 @@ abbrev pub IsTimed : Option Dial → What → Type 0
 IsTimed clock (what.Tick to) = IsTold clock to
 IsTimed clock (what.Asked call reply) = Unit {0}
 
+-- ---- the clock's answers
+
+abbrev pub tick_in : What → List ℕ
+tick_in (what.Tick to) = to ∷ []
+tick_in (what.Asked call reply) = []
+
+-- the moments of the ticks, in order
+abbrev pub ticks_in : List Entry → List ℕ
+ticks_in [] = []
+ticks_in (e ∷ es) = tick_in e.what ++ ticks_in es
+
+-- The moments are some of the answers, in the same order. No answer is taken twice.
+abbrev pub AreTakenFrom : List (Option ℕ) → List ℕ → Type 0
+AreTakenFrom answers [] = Unit {0}
+AreTakenFrom answers (at ∷ moments) =
+    (front : List (Option ℕ)) × (rest : List (Option ℕ)) × (answers ≡ front ++ Some at ∷ rest) × AreTakenFrom rest moments
+
+-- The clock was asked, and each tick of the history is to the moment of one answer. The answers are taken in order,
+-- and none is taken twice.
+pub record IsClocked (old new : List (Option ℕ)) (entries : List Entry) : Type 0 where
+  pub asked : List (Option ℕ)
+  pub answers : new ≡ old ++ asked
+  pub taken : AreTakenFrom asked (ticks_in entries)
+
 -- The shared desk goes on from its opening. The counts at the misses of each object rise, from its count at the
 -- opening to its count now. The clock's count is that of its last miss. Every tick is to one of the clock's moments.
 pub record IsSharedSince (desk : DeskSeen) (clock : ClockSeen) (s : SharedSeen) : Type 0 where
@@ -62,6 +87,7 @@ pub record IsSharedSince (desk : DeskSeen) (clock : ClockSeen) (s : SharedSeen) 
   pub timely : Rise clock.health.faults (faults_of of.Clock s.misses) s.clock.health.faults
   pub counted : s.clock.health.faults ≡ last_or clock.health.faults (faults_of of.Clock s.misses)
   pub timed : AllByRecursion (λ e. IsTimed clock.dial e.what) s.desk.state.entries
+  pub clocked : IsClocked clock.answers s.clock.answers s.desk.state.entries
   pub small : length s.desk.state.entries + length s.misses < 2 ^ 63
 
 -- The list is that of such a shared desk: a legal history from the opening, and misses whose counts rise from those

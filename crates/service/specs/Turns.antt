@@ -70,6 +70,8 @@ pub record AnswersInTurn (lane : ℕ) (call : Call) (old new : SharedSeen) (says
   pub moment : IsMoment at
   pub stood : StandsAt old.clock.dial at
   pub turns : new.clock.dial ≡ turned old.clock.dial
+  -- the clock was asked once, and this was its answer
+  pub asked : new.clock.answers ≡ old.clock.answers ++ Some at ∷ []
   pub counted : Counted old.desk.keeper.health.faults (choice ∷ []) new.desk.keeper.health.faults
   pub its_outcome : says ≡ (answer_with choice lane old.desk.state at call).outcome.said
   pub its_state : new.desk.state ≡ (answer_with choice lane old.desk.state at call).state
@@ -79,6 +81,7 @@ pub record AnswersInTurn (lane : ℕ) (call : Call) (old new : SharedSeen) (says
 pub record MissesClock (lane : ℕ) (old new : SharedSeen) : Type 0 where
   pub failed : HasFailed old.clock.health new.clock.health
   pub stands : new.clock.dial ≡ old.clock.dial
+  pub asked : new.clock.answers ≡ old.clock.answers ++ None ∷ []
   pub desk : new.desk ≡ old.desk
   pub rose : old.clock.health.faults < new.clock.health.faults
   pub its_misses : new.misses ≡ old.misses ++ miss lane (length old.desk.state.entries) of.Clock new.clock.health.faults ∷ []
@@ -86,8 +89,9 @@ pub record MissesClock (lane : ℕ) (old new : SharedSeen) : Type 0 where
 -- Memory ran out, before the clock was asked or after. In the second case the tick to its moment may have been made.
 pub record FindsNoMemory (lane : ℕ) (old new : SharedSeen) : Type 0 where
   pub its_misses : new.misses ≡ old.misses
-  pub either : ((new.clock.dial ≡ old.clock.dial) × (new.desk.state ≡ old.desk.state))
-      ⊎ ((at : ℕ) × IsMoment at × StandsAt old.clock.dial at × (new.clock.dial ≡ turned old.clock.dial) × MayHaveTicked lane at old.desk.state new.desk.state)
+  pub either : ((new.clock.dial ≡ old.clock.dial) × (new.desk.state ≡ old.desk.state) × (new.clock.answers ≡ old.clock.answers))
+      ⊎ ((at : ℕ) × IsMoment at × StandsAt old.clock.dial at × (new.clock.dial ≡ turned old.clock.dial) × MayHaveTicked lane at old.desk.state new.desk.state
+      × (new.clock.answers ≡ old.clock.answers ++ Some at ∷ []))
 
 abbrev pub GoesWithout : ℕ → SharedSeen → SharedSeen → Unanswered → Type 0
 GoesWithout lane old new ClockFault = MissesClock lane old new

@@ -1,4 +1,4 @@
-ghost use Rattle.std.specs.Prelude.{◌≡◌, ◌≢◌, ◌<◌, Err, IfOk, IfErr, OnOk, option_to_list, vec_len};
+ghost use Rattle.std.specs.Prelude.{◌≡◌, ◌≢◌, ◌<◌, ◌++◌, ◌∷◌, [], Err, IfOk, IfErr, OnOk, Some, option_to_list, vec_len};
 ghost use Rattle.std.specs.Vec.{vec_capacity};
 ghost use Rattle.asks.specs.Forms.{CallHasForms};
 ghost use Rattle.desk.specs.Seen.{desk_seen, DeskGoesOn};
@@ -64,6 +64,7 @@ fn moment_of<K: Keeper, B: Bell, C: Clock>(
 ) -> Result<Minute, Unanswered>
     ensures ok { IfOk result (λ at. IsMoment at × StandsAt (C.seen clock.old).dial at
         × ((C.seen clock.new).dial ≡ turned (C.seen clock.old).dial)) }
+    ensures asked { IfOk result (λ at. (C.seen clock.new).answers ≡ (C.seen clock.old).answers ++ Some at ∷ []) }
     ensures kept { OnOk result (misses.new.items ≡ misses.old.items) }
     ensures room { OnOk result (vec_len misses.new < vec_capacity misses.new) }
     ensures err { IfErr result (λ why. GoesWithout lane

@@ -1,9 +1,11 @@
-//! The desk over HTTP: the response to each request, over one connection or over many that share the desk.
+//! The desk over HTTP: the response to each request, over one connection or over many that share the desk. Many are
+//! served in rounds, or by workers beside which the desk ticks every minute.
 #![tactic(auto)]
 
 mod answering;
 mod doors;
 mod exchange;
+mod minutes;
 mod misses;
 mod opened;
 mod requested;
@@ -13,14 +15,17 @@ mod rounds;
 mod serving;
 mod shared;
 mod statuses;
+mod staying;
 mod turn_answers;
 mod turns;
 
 pub use doors::{Left, serve_door};
+pub use minutes::Minutes;
 pub use misses::{Event, Miss, MissOf};
 pub use opened::Opened;
 pub use serving::serve_link;
 pub use shared::Shared;
 pub use statuses::status_of;
+pub use staying::stay_at_door;
 pub use turn_answers::answer_in_turn;
 pub use turns::serve_turns;

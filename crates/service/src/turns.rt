@@ -1,6 +1,7 @@
 ghost use Rattle.std.specs.Prelude.{◌≡◌, ◌≢◌, Err, IfOk, Some};
 ghost use mathlib.Core.List.{IsPrefix};
 ghost use Rattle.connections.specs.Connections.{Answers, IsConnection, IsStep};
+ghost use Rattle.connections.specs.Crossed.{CrossedTo, IsConnectionBy, IsStepBy};
 ghost use Rattle.connections.specs.Writing.{WroteTo};
 ghost use Rattle.connections.specs.declared.answers.Unanswered.TheVariants.{ClockFault as ByClock};
 ghost use Rattle.connections.specs.declared.serving.Served.TheVariants as ended;
@@ -155,6 +156,9 @@ fn serve_next_in_turn<R: Wait, K: Keeper, B: Bell, N: Link, C: Clock, A: Opened,
         (GoesInTurns A.desk.opening A.clock.dial lane (pass_seen pass) (pass_seen result.1)) failed
         (unused buffer.old (unread (N.seen link.old).stream)) (unused buffer.new (unread (N.seen link.new).stream))
         (unread (N.seen link.new).stream) result.0) }
+    ensures crosses { CrossedTo (over N.seen link.old link.new) (λ failed. IsStepBy (in_lane lane)
+        (GoesInTurns A.desk.opening A.clock.dial lane (pass_seen pass) (pass_seen result.1)) failed
+        buffer.old buffer.new result.0) }
     ensures link { LinkGoesOn (N.seen link.old) (N.seen link.new) }
     ensures steady { IsSound A.clock.health → result.0 ≢ Some ended.ClockFault }
 {
@@ -197,6 +201,9 @@ pub fn serve_turns<R: Wait, K: Keeper, B: Bell, N: Link, C: Clock, A: Opened, L:
     ensures serves { WroteTo (over N.seen link.old link.new) (λ failed. IsConnection (in_lane lane)
         (GoesInTurns A.desk.opening A.clock.dial lane (pass_seen pass) (pass_seen result.1)) failed
         (unread (N.seen link.old).stream) (unread (N.seen link.new).stream) result.0) }
+    // The same of every link, by the record of what crossed it.
+    ensures crosses { CrossedTo (over N.seen link.old link.new) (λ failed. IsConnectionBy (in_lane lane)
+        (GoesInTurns A.desk.opening A.clock.dial lane (pass_seen pass) (pass_seen result.1)) failed result.0) }
     ensures link { LinkGoesOn (N.seen link.old) (N.seen link.new) }
     // A sound clock doesn't end the connection, and neither does a sound link.
     ensures steady_clock { IsSound A.clock.health → result.0 ≢ ended.ClockFault }

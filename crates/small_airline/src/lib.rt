@@ -49,16 +49,8 @@ pub fn lines_of(name: &str) -> &'static str {
         .map_or("", |(_, lines)| lines)
 }
 
-/// The files of the small airline, with another text for one of them.
-pub fn shelf_with(alloc: Global, other: &str, text: &[u8]) -> Result<MemoryShelf, OutOfMemory> {
-    let mut sources = Vec::new(alloc);
-    sources.push((Text::of(alloc, other.as_bytes())?, Text::of(alloc, text)?))?;
-    push_small(alloc, &mut sources)?;
-    Ok(MemoryShelf::new(sources, Vec::new(alloc)))
-}
-
-/// The files of the small airline, with other records under the header of one table.
-pub fn shelf_of(alloc: Global, other: &str, records: &[u8]) -> Result<MemoryShelf, OutOfMemory> {
+// The header of a table of the small airline and then other records.
+fn text_with(alloc: Global, other: &str, records: &[u8]) -> Result<Text, OutOfMemory> {
     let header = match lines_of(other).split_once("\n") {
         Some((header, _)) => header,
         None => "",
@@ -66,7 +58,16 @@ pub fn shelf_of(alloc: Global, other: &str, records: &[u8]) -> Result<MemoryShel
     let mut text = Vec::new(alloc);
     push_all(&mut text, &[header.as_bytes()])?;
     push_all(&mut text, &[b"\n", records])?;
-    shelf_with(alloc, other, &text)
+    Ok(Text::from_vec(text))
+}
+
+/// The files of the small airline, with other records under the header of one table.
+pub fn shelf_of(alloc: Global, other: &str, records: &[u8]) -> Result<MemoryShelf, OutOfMemory> {
+    let text = text_with(alloc, other, records)?;
+    let mut sources = Vec::new(alloc);
+    sources.push((Text::of(alloc, other.as_bytes())?, text))?;
+    push_small(alloc, &mut sources)?;
+    Ok(MemoryShelf::new(sources, Vec::new(alloc)))
 }
 
 /// The tables of the small airline, with other records in one of them.

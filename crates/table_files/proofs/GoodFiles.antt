@@ -1,6 +1,8 @@
 -- What a file gives is what its records say.
 use Rattle.std.proofs.Common.{◌≡◌, ◌∙◌, sym, ap, refl, subst, ℕ, ◌≤◌, length, List, [], ◌∷◌, Bool, true, false, Result, Ok, Err, MatchResult, cond, bytes_eq}
+use Rattle.desk_io.specs.Reads.{ReadsTo}
 use Rattle.desk_io.specs.Told.{OnSource}
+use Rattle.desk_io.specs.declared.source_read.SourceRead.{SourceRead}
 use Rattle.std.proofs.lemmas.Bool.{and_parts}
 use Rattle.std.proofs.lemmas.Slice.Eq.{bytes_eq-Decides}
 use Rattle.ops_tables.specs.Tables.{TableRows}
@@ -120,7 +122,7 @@ file_says file.Pairs before records = table_says is_same_pair 50000 pairs before
 file_says file.Actors before records = table_says is_same_actor 5000 actors before records
 file_says file.Hours before records = table_says is_same_hours 20000 hours before records
 
-pub file_gives : (told : Told) (f : File) (before : TableRows) (text : List ℕ) (made : Result TableRows BadRecord) → length text ≤ 67_108_864 → OnSource told (name_of f) (λ given. given ≡ text)
-    → Gives text (with_file f before) made → FileGives told f before made
-file_gives told f before text made within source g =
-    record { bytes = text; within = within; source = source; gives = g; says = subst (SaysFile f before g.records) g.gives (file_says f before g.records) }
+pub file_gives : (told : Told) (old new : List SourceRead) (f : File) (before : TableRows) (text : List ℕ) (made : Result TableRows BadRecord) → length text ≤ 67_108_864
+    → OnSource told (name_of f) (λ given. given ≡ text) → ReadsTo (name_of f) old new (Ok text) → Gives text (with_file f before) made → FileGives told old new f before made
+file_gives told old new f before text made within source handed g =
+    record { bytes = text; within = within; source = source; handed = handed; gives = g; says = subst (SaysFile f before g.records) g.gives (file_says f before g.records) }

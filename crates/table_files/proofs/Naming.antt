@@ -6,6 +6,7 @@ use Rattle.desk_time.specs.Digits.{◌>>=◌}
 use Rattle.desk_time.specs.Numbers.{number_in}
 use Rattle.desk_time.proofs.Chains.{bind_any, bind_if, under}
 use Rattle.desk_time.proofs.NumberLaws.{number_within as number_limited}
+use Rattle.desk_io.specs.declared.source_read.SourceRead.{SourceRead}
 use Rattle.ops_tables.specs.Forms.{is_name, is_tail, is_item, is_person, is_key, is_name_or_none, are_item_names}
 use Rattle.ops_tables.specs.Keys.{is_same_airport, is_same_approach, is_same_alternate, is_same_type, is_same_tail, is_same_use, is_same_distance, is_same_route, is_same_item, is_same_pair, is_same_actor, is_same_hours}
 use Rattle.ops_tables.specs.Named.{AreNamed}
@@ -143,35 +144,35 @@ other_keeps is_same_key limit table before after records leaves names says =
     }
 
 -- The names of tables that were read have their forms: file by file, in the order in which they are read.
-pub names_formed : (told : Told) (t : TableRows) → FilesGive told no_rows files t → AreNamed t
-names_formed told t one =
-    let after_settings = settings_keep no_rows one.0 one.1.gives.records (record { tails = tt; items = tt; people = tt; hours = tt }) one.1.says in
-    let two = one.2 in
-    let after_airports = other_keeps is_same_airport 5000 airports one.0 two.0 two.1.gives.records (λ before rows. (refl, refl, refl, refl)) after_settings two.1.says in
-    let three = two.2 in
-    let after_approaches = other_keeps is_same_approach 50000 approaches two.0 three.0 three.1.gives.records (λ before rows. (refl, refl, refl, refl)) after_airports three.1.says in
-    let four = three.2 in
-    let after_alternates = other_keeps is_same_alternate 20000 alternates three.0 four.0 four.1.gives.records (λ before rows. (refl, refl, refl, refl)) after_approaches four.1.says in
-    let five = four.2 in
-    let after_types = other_keeps is_same_type 200 types four.0 five.0 five.1.gives.records (λ before rows. (refl, refl, refl, refl)) after_alternates five.1.says in
-    let six = five.2 in
-    let after_tails = table_keeps IsTailRow is_same_tail 5000 tails five.0 six.0 six.1.gives.records tail_formed
-    (λ rows are. record { tails = are; items = after_types.items; people = after_types.people; hours = after_types.hours }) six.1.says in
-    let seven = six.2 in
-    let after_uses = other_keeps is_same_use 200000 uses six.0 seven.0 seven.1.gives.records (λ before rows. (refl, refl, refl, refl)) after_tails seven.1.says in
-    let eight = seven.2 in
-    let after_distances = other_keeps is_same_distance 200000 distances seven.0 eight.0 eight.1.gives.records (λ before rows. (refl, refl, refl, refl)) after_uses eight.1.says in
-    let nine = eight.2 in
-    let after_routes = other_keeps is_same_route 50000 routes eight.0 nine.0 nine.1.gives.records (λ before rows. (refl, refl, refl, refl)) after_distances nine.1.says in
-    let ten = nine.2 in
-    let after_items = table_keeps IsItemRow is_same_item 50000 mel nine.0 ten.0 ten.1.gives.records item_formed
-    (λ rows are. record { tails = after_routes.tails; items = are; people = after_routes.people; hours = after_routes.hours }) ten.1.says in
-    let eleven = ten.2 in
-    let after_pairs = other_keeps is_same_pair 50000 pairs ten.0 eleven.0 eleven.1.gives.records (λ before rows. (refl, refl, refl, refl)) after_items eleven.1.says in
-    let twelve = eleven.2 in
-    let after_actors = table_keeps IsPersonRow is_same_actor 5000 actors eleven.0 twelve.0 twelve.1.gives.records person_formed
-    (λ rows are. record { tails = after_pairs.tails; items = after_pairs.items; people = are; hours = after_pairs.hours }) twelve.1.says in
-    let thirteen = twelve.2 in
-    let after_hours = table_keeps IsHoursRow is_same_hours 20000 hours twelve.0 thirteen.0 thirteen.1.gives.records hours_formed
-    (λ rows are. record { tails = after_actors.tails; items = after_actors.items; people = after_actors.people; hours = are }) thirteen.1.says in
-    subst AreNamed thirteen.2 after_hours
+pub names_formed : (told : Told) (old new : List SourceRead) (t : TableRows) → FilesGive told old new no_rows files t → AreNamed t
+names_formed told old new t one =
+    let after_settings = settings_keep no_rows one.0 one.2.gives.records (record { tails = tt; items = tt; people = tt; hours = tt }) one.2.says in
+    let two = one.3 in
+    let after_airports = other_keeps is_same_airport 5000 airports one.0 two.0 two.2.gives.records (λ before rows. (refl, refl, refl, refl)) after_settings two.2.says in
+    let three = two.3 in
+    let after_approaches = other_keeps is_same_approach 50000 approaches two.0 three.0 three.2.gives.records (λ before rows. (refl, refl, refl, refl)) after_airports three.2.says in
+    let four = three.3 in
+    let after_alternates = other_keeps is_same_alternate 20000 alternates three.0 four.0 four.2.gives.records (λ before rows. (refl, refl, refl, refl)) after_approaches four.2.says in
+    let five = four.3 in
+    let after_types = other_keeps is_same_type 200 types four.0 five.0 five.2.gives.records (λ before rows. (refl, refl, refl, refl)) after_alternates five.2.says in
+    let six = five.3 in
+    let after_tails = table_keeps IsTailRow is_same_tail 5000 tails five.0 six.0 six.2.gives.records tail_formed
+    (λ rows are. record { tails = are; items = after_types.items; people = after_types.people; hours = after_types.hours }) six.2.says in
+    let seven = six.3 in
+    let after_uses = other_keeps is_same_use 200000 uses six.0 seven.0 seven.2.gives.records (λ before rows. (refl, refl, refl, refl)) after_tails seven.2.says in
+    let eight = seven.3 in
+    let after_distances = other_keeps is_same_distance 200000 distances seven.0 eight.0 eight.2.gives.records (λ before rows. (refl, refl, refl, refl)) after_uses eight.2.says in
+    let nine = eight.3 in
+    let after_routes = other_keeps is_same_route 50000 routes eight.0 nine.0 nine.2.gives.records (λ before rows. (refl, refl, refl, refl)) after_distances nine.2.says in
+    let ten = nine.3 in
+    let after_items = table_keeps IsItemRow is_same_item 50000 mel nine.0 ten.0 ten.2.gives.records item_formed
+    (λ rows are. record { tails = after_routes.tails; items = are; people = after_routes.people; hours = after_routes.hours }) ten.2.says in
+    let eleven = ten.3 in
+    let after_pairs = other_keeps is_same_pair 50000 pairs ten.0 eleven.0 eleven.2.gives.records (λ before rows. (refl, refl, refl, refl)) after_items eleven.2.says in
+    let twelve = eleven.3 in
+    let after_actors = table_keeps IsPersonRow is_same_actor 5000 actors eleven.0 twelve.0 twelve.2.gives.records person_formed
+    (λ rows are. record { tails = after_pairs.tails; items = after_pairs.items; people = are; hours = after_pairs.hours }) twelve.2.says in
+    let thirteen = twelve.3 in
+    let after_hours = table_keeps IsHoursRow is_same_hours 20000 hours twelve.0 thirteen.0 thirteen.2.gives.records hours_formed
+    (λ rows are. record { tails = after_actors.tails; items = after_actors.items; people = after_actors.people; hours = are }) thirteen.2.says in
+    subst AreNamed thirteen.3.0 after_hours

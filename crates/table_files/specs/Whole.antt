@@ -1,8 +1,12 @@
--- Reading the tables of a shelf, file by file.
+-- Reading the tables of a shelf, file by file. `old` and `new` are the shelf's reads before and after.
 use Rattle.std.specs.Prelude.{◌≡◌, ℕ, ◌<◌, ◌≤◌, List, [], ◌∷◌, ◌++◌, length, Option, Result, Ok, Err, MatchResult}
 use Rattle.desk_io.specs.Told.{OnSource, HoldsName}
 use Rattle.desk_io.specs.Health.{Health, RoseOrFull}
+use Rattle.desk_io.specs.Reads.{ReadsTo, StopsReading}
 use Rattle.desk_io.specs.Seen.{ShelfSeen, Holds}
+use Rattle.desk_io.specs.declared.faults.WholeFault.{WholeFault}
+use Rattle.desk_io.specs.declared.faults.WholeFault.TheVariants as unread
+use Rattle.desk_io.specs.declared.source_read.SourceRead.{SourceRead}
 use Rattle.ops_tables.specs.Tables.{TableRows}
 use Rattle.table_files.specs.Filling.{Gives}
 use Rattle.table_files.specs.Files.{files, name_of, no_rows, with_file}
@@ -17,30 +21,27 @@ use Rattle.table_files.specs.declared.files.File.{File}
 abbrev pub Told : Type 0
 Told = Option (List ℕ → Option (List ℕ))
 
--- The file's source gives `made` after the tables before it. It is exactly what the source's records say.
-pub record FileGives (told : Told) (file : File) (before : TableRows) (made : Result TableRows BadRecord) : Type 0 where
+-- The bytes of a file give `made` after the tables before it. It is exactly what the records in these bytes say.
+pub record FileGives (told : Told) (old new : List SourceRead) (file : File) (before : TableRows) (made : Result TableRows BadRecord) : Type 0 where
   pub bytes : List ℕ
   pub within : length bytes ≤ 67_108_864
+  -- they are the whole source
   pub source : OnSource told (name_of file) (λ given. given ≡ bytes)
+  -- the reads from `old` to `new` returned exactly these bytes, from the start of the file to its end, and nothing else
+  pub handed : ReadsTo (name_of file) old new (Ok bytes)
   pub gives : Gives bytes (with_file file before) made
   pub says : SaysFile file before gives.records made
 
--- reading these files in turn leads from the tables `before` to the tables `after`
-abbrev pub FilesGive : Told → TableRows → List File → TableRows → Type 0
-FilesGive told before [] after = before ≡ after
-FilesGive told before (file ∷ others) after = (between : TableRows) × FileGives told file before (Ok between) × FilesGive told between others after
+-- Reading these files in turn, each once, leads from the tables `before` to the tables `after`. Nothing else is read.
+abbrev pub FilesGive : Told → (old new : List SourceRead) → TableRows → List File → TableRows → Type 0
+FilesGive told old new before [] after = (before ≡ after) × (new ≡ old)
+FilesGive told old new before (file ∷ others) after =
+    (between : TableRows) × (next : List SourceRead) × FileGives told old next file before (Ok between) × FilesGive told next new between others after
 
 -- the first bad record of a file, after the tables that were read before it
-pub record FileIsBad (told : Told) (file : File) (before : TableRows) (bad : BadTable) : Type 0 where
+pub record FileIsBad (told : Told) (old new : List SourceRead) (file : File) (before : TableRows) (bad : BadTable) : Type 0 where
   pub name : bad.name ≡ name_of file
-  pub gives : FileGives told file before (Err (record { line = bad.line; why = bad.why }))
-
--- What a fault says of its file. For a read fault the shelf's contract says more. Out of memory says nothing.
-abbrev pub FileFails : Told → File → TableRows → TableFault → Type 0
-FileFails told file before (fault.Bad bad) = FileIsBad told file before bad
-FileFails told file before (fault.ReadFault name) = name ≡ name_of file
-FileFails told file before (fault.TooLong name) = (name ≡ name_of file) × OnSource told (name_of file) (λ given. 67_108_864 < length given)
-FileFails told file before fault.OutOfMemory = Unit {0}
+  pub gives : FileGives told old new file before (Err (record { line = bad.line; why = bad.why }))
 
 -- the shelf holds the file
 abbrev pub HoldsFile : ShelfSeen → File → Type 0
@@ -64,34 +65,45 @@ RoseAt before now (fault.Bad bad) = Unit {0}
 RoseAt before now (fault.TooLong name) = Unit {0}
 RoseAt before now fault.OutOfMemory = Unit {0}
 
--- What a fault says of the file whose text was to be read. TooLong means that the source has more than 64 MiB.
-abbrev pub TextFails : Told → File → TableFault → Type 0
-TextFails told file (fault.ReadFault name) = name ≡ name_of file
-TextFails told file (fault.TooLong name) = (name ≡ name_of file) × OnSource told (name_of file) (λ given. 67_108_864 < length given)
-TextFails told file fault.OutOfMemory = Unit {0}
-TextFails told file (fault.Bad bad) = ⊥
+-- What a fault says of the file whose text was to be read. `TooLong`: the reads returned more than 64 MiB, as the
+-- source has. `ReadFault`: the last read failed; the shelf's contract says more. In each case nothing else was read.
+abbrev pub TextFails : Told → (old new : List SourceRead) → File → TableFault → Type 0
+TextFails told old new file (fault.ReadFault name) = (name ≡ name_of file) × StopsReading (name_of file) old new unread.ReadFault
+TextFails told old new file (fault.TooLong name) =
+    (name ≡ name_of file) × OnSource told (name_of file) (λ given. 67_108_864 < length given) × StopsReading (name_of file) old new unread.TooLong
+TextFails told old new file fault.OutOfMemory = (read : Result (List ℕ) WholeFault) × ReadsTo (name_of file) old new read
+TextFails told old new file (fault.Bad bad) = ⊥
 
-abbrev pub ReadsText : Told → File → Result (List ℕ) TableFault → Type 0
-ReadsText told file result = MatchResult result (λ text. (length text ≤ 67_108_864) × OnSource told (name_of file) (λ given. given ≡ text)) (TextFails told file)
+-- the text of a file is exactly what the reads from `old` to `new` returned, and is the whole source; or its fault
+abbrev pub ReadsText : Told → (old new : List SourceRead) → File → Result (List ℕ) TableFault → Type 0
+ReadsText told old new file result =
+    MatchResult result (λ text. (length text ≤ 67_108_864) × OnSource told (name_of file) (λ given. given ≡ text) × ReadsTo (name_of file) old new (Ok text)) (TextFails told old new file)
+
+-- what a fault says of its file: it has a bad record, or its text wasn't read
+abbrev pub FileFails : Told → (old new : List SourceRead) → File → TableRows → TableFault → Type 0
+FileFails told old new file before (fault.Bad bad) = FileIsBad told old new file before bad
+FileFails told old new file before other = TextFails told old new file other
 
 -- What was read of a file, and the tables after it, or its fault.
-abbrev pub ReadsFile : {A : Type 0} → Told → File → TableRows → Result A TableFault → TableRows → Type 0
-ReadsFile told file before result after = MatchResult result (λ _. FileGives told file before (Ok after)) (λ why. FileFails told file before why)
+abbrev pub ReadsFile : {A : Type 0} → Told → (old new : List SourceRead) → File → TableRows → Result A TableFault → TableRows → Type 0
+ReadsFile told old new file before result after = MatchResult result (λ _. FileGives told old new file before (Ok after)) (λ why. FileFails told old new file before why)
 
--- the files before this one are good, and this one fails
-pub record StopsAt (told : Told) (Fails : File → TableRows → Type 0) : Type 0 where
+-- The files before this one are good, and this one fails. The reads from `old` up to `upto` are those of the good ones.
+pub record StopsAt (told : Told) (old : List SourceRead) (Fails : List SourceRead → File → TableRows → Type 0) : Type 0 where
   pub earlier : List File
   pub file : File
   pub later : List File
   pub order : files ≡ earlier ++ file ∷ later
   pub before : TableRows
-  pub read : FilesGive told no_rows earlier before
-  pub fails : Fails file before
+  pub upto : List SourceRead
+  pub read : FilesGive told old upto no_rows earlier before
+  pub fails : Fails upto file before
 
 -- The result is the tables of all files, or the first fault in the order of the files.
-abbrev pub ReadsTables : Told → Result TableRows TableFault → Type 0
-ReadsTables told result = MatchResult result (λ tables. FilesGive told no_rows files tables) (λ why. StopsAt told (λ file before. FileFails told file before why))
+abbrev pub ReadsTables : Told → (old new : List SourceRead) → Result TableRows TableFault → Type 0
+ReadsTables told old new result =
+    MatchResult result (λ tables. FilesGive told old new no_rows files tables) (λ why. StopsAt told old (λ upto file before. FileFails told upto new file before why))
 
 -- The files before this one are good. If the fault is a read fault, the shelf doesn't hold this file.
-abbrev pub StopsAtMissing : Told → TableFault → Type 0
-StopsAtMissing told why = StopsAt told (λ file before. FileFails told file before why × IsMissing told file why)
+abbrev pub StopsAtMissing : Told → (old new : List SourceRead) → TableFault → Type 0
+StopsAtMissing told old new why = StopsAt told old (λ upto file before. FileFails told upto new file before why × IsMissing told file why)

@@ -41,7 +41,7 @@ pub enum TableFault {
     /// The shelf failed to read the file of this name and counted the fault. If the count is already full (2^64 - 1),
     /// it doesn't change.
     ReadFault(Text),
-    /// The file of this name has more than 64 MiB.
+    /// The reads of the file of this name returned more than 64 MiB.
     TooLong(Text),
     /// Memory ran out.
     OutOfMemory,

@@ -41,7 +41,7 @@ fn bad_table(alloc: Global, file: File, bad: BadRecord) -> Result<BadTable, OutO
 
 // Reads the whole text of a file.
 fn read_text<S: Shelf>(alloc: Global, shelf: &mut S, file: File) -> Result<Text, TableFault>
-    ensures reads { ReadsText (S.seen shelf.old).sources file result }
+    ensures reads { ReadsText (S.seen shelf.old).sources (S.seen shelf.old).reads (S.seen shelf.new).reads file result }
     ensures on { ShelfGoesOn (HoldsFile (S.seen shelf.old) file) (S.seen shelf.old) (S.seen shelf.new) }
     ensures missing { IsSound (S.seen shelf.old).health → IfErr result (IsMissing (S.seen shelf.old).sources file) }
     ensures cause { IfErr result (RoseAt (S.seen shelf.old).health (S.seen shelf.new).health) }
@@ -62,7 +62,8 @@ fn read_file<S: Shelf>(
     file: File,
     loaded: &mut Loading,
 ) -> Result<(), TableFault>
-    ensures reads { ReadsFile (S.seen shelf.old).sources file (shown loaded.old) result (shown loaded.new) }
+    ensures reads { ReadsFile (S.seen shelf.old).sources (S.seen shelf.old).reads (S.seen shelf.new).reads file
+        (shown loaded.old) result (shown loaded.new) }
     ensures settings { FitsSettings loaded.old.settings → OnOk result (FitsSettings loaded.new.settings) }
     ensures on { ShelfGoesOn (HoldsFile (S.seen shelf.old) file) (S.seen shelf.old) (S.seen shelf.new) }
     ensures missing { IsSound (S.seen shelf.old).health → IfErr result (IsMissing (S.seen shelf.old).sources file) }
@@ -75,14 +76,17 @@ fn read_file<S: Shelf>(
     }
 }
 
-/// Reads the thirteen tables of a shelf, file by file. `Bad` is the first bad record in the order of the files.
-/// `TooLong` means that a file has more than 64 MiB, after the tables before it were good. `ReadFault` means that the
-/// shelf's count of faults rose or is full. A sound shelf returns it only for a file that it doesn't hold, after the
-/// tables before it were good. `ReadFault` and `TooLong` carry the file's name.
+/// Reads the thirteen tables of a shelf, file by file, each once and from its start to its end, and nothing else. The
+/// tables are those of the bytes that these reads returned. `Bad` is the first bad record in the order of the files.
+/// `TooLong` means that the reads of a file returned more than 64 MiB, after the tables before it were good.
+/// `ReadFault` means that a read failed, and that the shelf's count of faults rose or is full. A sound shelf returns it
+/// only for a file that it doesn't hold, after the tables before it were good. `ReadFault` and `TooLong` carry the
+/// file's name. After a fault nothing more is read.
 pub fn read_tables<S: Shelf>(alloc: Global, shelf: &mut S) -> Result<Tables, TableFault>
-    ensures tables { ReadsTables (S.seen shelf.old).sources result }
+    ensures tables { ReadsTables (S.seen shelf.old).sources (S.seen shelf.old).reads (S.seen shelf.new).reads result }
     ensures on { ShelfGoesOn (HoldsFiles (S.seen shelf.old)) (S.seen shelf.old) (S.seen shelf.new) }
-    ensures missing { IsSound (S.seen shelf.old).health → IfErr result (StopsAtMissing (S.seen shelf.old).sources) }
+    ensures missing { IsSound (S.seen shelf.old).health → IfErr result
+        (StopsAtMissing (S.seen shelf.old).sources (S.seen shelf.old).reads (S.seen shelf.new).reads) }
     ensures cause { IfErr result (RoseAt (S.seen shelf.old).health (S.seen shelf.new).health) }
 {
     let mut loaded = unread(alloc);

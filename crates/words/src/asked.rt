@@ -35,6 +35,20 @@ fn number_within(limits: Limits, word: &str) -> Option<u32>
     }
 }
 
+// A number within the limits, and zero in place of a second.
+fn one_number(limits: Limits, rest: &[&str]) -> Option<(u32, u32)>
+    ensures value { result ≡ spec.one_number limits (map (λ w. w.now) rest.entry.now) }
+    ensures bound { IfSome result (λ n. n.0 ≤ limits.most) }
+{
+    match rest {
+        [word] => {
+            let number = number_within(limits, word)?;
+            Some((number, 0))
+        }
+        _ => None,
+    }
+}
+
 fn both_within(one: Limits, two: Limits, first: &str, second: &str) -> Option<(u32, u32)>
     ensures value { result ≡ spec.both_within one two first.now second.now }
     ensures bound { IfSome result (λ n. (n.0 ≤ one.most) × (n.1 ≤ two.most)) }
@@ -74,6 +88,7 @@ fn numbers_of(form: Form, rest: &[&str]) -> Option<(u32, u32)>
 {
     match form {
         Form::Names(limits) => no_numbers(limits, rest.len()),
+        Form::Number(limits) => one_number(limits, rest),
         Form::Numbers(one, two) => two_numbers(one, two, rest),
     }
 }

@@ -148,7 +148,7 @@ fn names_of(form: Form, words: &[String]) -> &[String]
 {
     match form {
         Form::Names(_) => rest_of(words),
-        Form::Numbers(_, _) => &[],
+        Form::Number(_) | Form::Numbers(_, _) => &[],
     }
 }
 

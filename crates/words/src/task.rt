@@ -22,13 +22,16 @@ pub enum DeskTask {
     /// `serve PORT CONNECTIONS` serves 1 to 1,000 connections at a port, up to 16 at once, each in a thread of its own
     /// if the machine provides one. Prints the closing text.
     Serve { port: u16, connections: u32 },
+    /// `stay PORT` serves connections at a port until the door fails, by workers that each have a thread of their own
+    /// if the machine provides one. Meanwhile the desk ticks every minute.
+    Stay { port: u16 },
     /// `import FILE` answers the records of a file. Prints the reply to each record, and the closing text.
     Import,
     /// `make NUMBER COUNT` answers calls that are made from the seed `number` for 1 to 20,000 flights. Prints three
     /// lines of counts.
     Make { number: u32, count: u32 },
     /// `advise PLAN CANDIDATES` advises alternates for each leg of a plan. Prints a line for each leg, and changes
-    /// nothing on the desk.
+    /// nothing on the desk once opened.
     Advise,
     /// `planned SCRIPT` runs a script of planned redispatches, which may file final plans, check them and take them up
     /// in flight. Prints the reply to each line, and the closing text.
@@ -36,6 +39,12 @@ pub enum DeskTask {
     /// `shifts SCRIPT` runs a script of shifts, in which dispatchers hand over their desks. Prints the reply to each
     /// line, the closing text and the roster. Each bell rings for the desks at which its person sits.
     Shifts,
+    /// `why RELEASE` explains the revisions of a release, of a number from 1. Prints every comparison that the rules
+    /// make for the active and the pending one, and changes nothing on the desk once opened.
+    Why { release: u32 },
+    /// `check PLAN` checks a plan that isn't filed. Prints every comparison that the rules make for it, and changes
+    /// nothing on the desk once opened.
+    Check,
 }
 
 /// The name of a command.
@@ -44,25 +53,31 @@ pub(crate) enum Name {
     Run,
     Race,
     Serve,
+    Stay,
     Weather,
     Import,
     Make,
     Advise,
     Planned,
     Shifts,
+    Why,
+    Check,
 }
 
 /// All commands.
-pub(crate) const COMMANDS: [Name; 9] = [
+pub(crate) const COMMANDS: [Name; 12] = [
     Name::Run,
     Name::Race,
     Name::Serve,
+    Name::Stay,
     Name::Weather,
     Name::Import,
     Name::Make,
     Name::Advise,
     Name::Planned,
     Name::Shifts,
+    Name::Why,
+    Name::Check,
 ];
 
 /// The least and the most that a count or a number may be.
@@ -77,6 +92,8 @@ pub(crate) struct Limits {
 pub(crate) enum Form {
     /// The names of sources, as many as the limits allow.
     Names(Limits),
+    /// A decimal number within its limits.
+    Number(Limits),
     /// Two decimal numbers, each within its limits.
     Numbers(Limits, Limits),
 }
@@ -114,6 +131,7 @@ impl Name {
                 "serve",
                 Form::Numbers(between(1, 65_535), between(1, 1_000)),
             ),
+            Name::Stay => row_with("stay", Form::Number(between(1, 65_535))),
             Name::Weather => row_with("weather", Form::Names(between(1, 1))),
             Name::Import => row_with("import", Form::Names(between(1, 1))),
             Name::Make => row_with(
@@ -123,10 +141,12 @@ impl Name {
             Name::Advise => row_with("advise", Form::Names(between(2, 2))),
             Name::Planned => row_with("planned", Form::Names(between(1, 1))),
             Name::Shifts => row_with("shifts", Form::Names(between(1, 1))),
+            Name::Why => row_with("why", Form::Number(between(1, 4_294_967_295))),
+            Name::Check => row_with("check", Form::Names(between(1, 1))),
         }
     }
 
-    /// The command's task. Its numbers are zeros if it takes none.
+    /// The command's task. A number that it doesn't take is zero.
     pub(crate) fn task(self, numbers: (u32, u32)) -> Task
         requires { Fits (spec.row_of self).form numbers }
         ensures value { result ≡ spec.task_of self numbers }
@@ -140,6 +160,7 @@ impl Name {
                 port: one as u16,
                 connections: two,
             }),
+            Name::Stay => Task::Desk(DeskTask::Stay { port: one as u16 }),
             Name::Weather => Task::Weather,
             Name::Import => Task::Desk(DeskTask::Import),
             Name::Make => Task::Desk(DeskTask::Make {
@@ -149,6 +170,8 @@ impl Name {
             Name::Advise => Task::Desk(DeskTask::Advise),
             Name::Planned => Task::Desk(DeskTask::Planned),
             Name::Shifts => Task::Desk(DeskTask::Shifts),
+            Name::Why => Task::Desk(DeskTask::Why { release: one }),
+            Name::Check => Task::Desk(DeskTask::Check),
         }
     }
 }

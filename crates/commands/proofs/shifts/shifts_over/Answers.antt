@@ -56,4 +56,4 @@ returns-clause-opens g c =
     let opened = c.in-Err.ensures in
     let ended = c.boardless in
     not_opened g.K.Keeper.seen c.args.provided.tables (RunsShifts (first_of c.args.texts.now)) c.args.provided.keeper c.in-Err.field-0.keeper c.in-Err.field-0.why ended.result (ended.ensures.answer ∙ ap (λ f. Err f) c.from.ensures)
-    ended.ensures.none ended.ensures.keeper opened.why opened.left opened.same opened.failed
+    ended.ensures.none ended.ensures.keeper opened.why opened.left opened.same opened.failed opened.unentered

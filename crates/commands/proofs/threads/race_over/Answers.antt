@@ -4,6 +4,7 @@ use Rattle.scripts.specs.Below.{Shown, KeepsState, desk_at, DeskAt, IsRace, IsRa
 use Rattle.commands.proofs.Opened.{held_opened, keeper_worked, not_opened, opened_fresh, worked}
 use Rattle.commands.proofs.RungLaws.{rung_over}
 use Rattle.commands.specs.Working.{Races, told_of, since}
+use Rattle.scripts.specs.Below.{OpensOver}
 use Rattle.keeper.specs.Seen.{KeeperGoesOn}
 use Rattle.std.specs.Prelude.{IfOk, Result, Ok}
 use Rattle.scripts.proofs.Below.{merged_lower, part_lower, history_lower}
@@ -47,8 +48,9 @@ returns-in-Ok-clause-opens g c =
     (left.ensures.answer ∙ c.told_of.ensures) left.ensures.board left.ensures.keeper
     (held_opened _ c.args.provided.tables c.in-Ok.desk.board held.result.board opened.opened held.ensures.board)
     (subst (λ k. KeeperGoesOn (seen c.args.provided.keeper) (seen k)) (sym held.ensures.keeper) opened.on)
-    (subst (λ k. KeepsState (seen k).rows held.result.board.state) (sym held.ensures.keeper)
-    (subst (λ (b : Shown). KeepsState (seen c.in-Ok.desk.keeper).rows b.state) (sym held.ensures.board) opened.kept))
+    (subst (λ k. OpensOver (seen c.args.provided.keeper) (seen k) c.args.provided.tables held.result.board) (sym held.ensures.keeper)
+    (subst (λ (b : Shown). OpensOver (seen c.args.provided.keeper) (seen c.in-Ok.desk.keeper) c.args.provided.tables b) (sym held.ensures.board)
+    (record { entered = opened.kept.entered; kept = opened.kept.kept })))
     work.ensures.on
     (races_since c.as_slice.result.now c.args.texts.now (desk_at seen held.result) (desk_at seen work.result.desk) work.result.text c.as_slice.ensures work.ensures.race work.ensures.part)
     left.ensures.holds
@@ -73,4 +75,4 @@ pub returns-in-Err-clause-opens : goal.returns-in-Err-clause-opens
 returns-in-Err-clause-opens g c =
     let opened = c.in-Err.ensures in
     not_opened g.K.Keeper.seen c.args.provided.tables (Races c.args.texts.now) c.args.provided.keeper c.in-Err.field-0.keeper c.in-Err.field-0.why c.boardless.result (c.boardless.ensures.answer ∙ ap (λ f. Err f) c.from.ensures) c.boardless.ensures.none
-    c.boardless.ensures.keeper opened.why opened.left opened.same opened.failed
+    c.boardless.ensures.keeper opened.why opened.left opened.same opened.failed opened.unentered

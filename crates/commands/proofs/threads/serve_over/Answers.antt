@@ -59,4 +59,4 @@ returns-in-Err-clause-opens g c =
     let opened = c.in-Err.ensures in
     let ended = c.boardless-ended in
     not_opened g.K.Keeper.seen c.args.provided.tables (Serves (service g.C.Clock.seen g.D.Door.seen g.D.Link.Link.seen c.args.clock c.args.clock c.args.door c.args.door) c.args.port c.args.connections) c.args.provided.keeper c.in-Err.field-0.keeper c.in-Err.field-0.why ended.result (ended.ensures.answer ∙ ap (λ f. Err f) c.from.ensures) ended.ensures.none
-    ended.ensures.keeper opened.why opened.left opened.same opened.failed
+    ended.ensures.keeper opened.why opened.left opened.same opened.failed opened.unentered

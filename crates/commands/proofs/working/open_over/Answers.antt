@@ -1,7 +1,8 @@
 use Rattle.std.proofs.Common.{ap, ◌∙◌, Err, subst, sym}
 use Rattle.alerts.specs.Ringing.{hung_all}
-use Rattle.commands.proofs.Opened.{asked_after, asked_nothing, does_by, goes_by, keeper_worked, not_opened, opened_tables, worked}
+use Rattle.commands.proofs.Opened.{asked_after, asked_nothing, does_by, goes_by, keeper_worked, not_opened, worked}
 use Rattle.commands.proofs.RungLaws.{rung_over}
+use Rattle.scripts.proofs.Below.{opened_tables}
 use Rattle.commands.specs.Seen.{lent}
 use Rattle.commands.proofs.working.open_over.Goals as goal
 
@@ -56,4 +57,4 @@ returns-in-Err-clause-opens g c =
     let opened = c.in-Err.ensures in
     let provided = c.args.provided in
     not_opened g.K.Keeper.seen provided.tables (g.W.Work.does c.args.work) provided.keeper c.in-Err.field-0.keeper c.in-Err.field-0.why c.boardless.result
-    (c.boardless.ensures.answer ∙ ap (λ f. Err f) c.from.ensures) c.boardless.ensures.none c.boardless.ensures.keeper opened.why opened.left opened.same opened.failed
+    (c.boardless.ensures.answer ∙ ap (λ f. Err f) c.from.ensures) c.boardless.ensures.none c.boardless.ensures.keeper opened.why opened.left opened.same opened.failed opened.unentered

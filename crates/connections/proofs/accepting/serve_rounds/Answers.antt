@@ -11,7 +11,7 @@ returns-in_default-clause-run g c = λ list is_last.
     let early = c.args.between in
     let is = c.in_default.ensures in
     run_unopened g.T.Listed.bears g.W.Serving.says (g.D.Door.seen early.door) (g.D.Door.seen c.bind.new.self) (pass_seen early.pass) list (pass_numbers early.pass) (pass_splits early.pass) c.args.port
-    c.args.connections c.requires.first.0 c.requires.first.1 c.requires.none is.same is.cause.0 is_last
+    c.args.connections c.requires.first.0 c.requires.first.1 c.requires.none is.same is.passed is.cause.0 is_last
 
 pub loop-before-init : goal.loop-before-init
 loop-before-init g c =
@@ -26,7 +26,7 @@ loop-before-init g c =
       empty = c.requires.room.0;
       room = c.requires.room.1;
       served = served_none g.T.Listed.bears g.W.Serving.says c.args.port (g.D.Door.seen early.door) (g.D.Door.seen c.bind.new.self) (pass_seen early.pass) (pass_numbers early.pass) (pass_splits early.pass) early.met
-          c.requires.first.0 c.requires.first.1 c.requires.none is.same is.opened is.on c.requires.met;
+          c.requires.first.0 c.requires.first.1 c.requires.none is.same is.passed is.opened is.on c.requires.met;
     }
 
 pub returns-then-failed-clause-run : goal.returns-then-failed-clause-run

@@ -20,7 +20,7 @@ returns-in_default-clause-round g t c =
     let given = c.requires.lanes.0 in
     let is = c.in_default.ensures in
     round_failed g.T.Listed.bears g.W.Serving.says (c.args.before + 1) c.args.left (over g.D.Door.seen c.args.door c.accept.new.self) (pass_seen c.args.pass) (pass_seen c.args.pass) (pass_numbers c.args.pass) (pass_splits c.args.pass) c.args.done.items
-    c.in_default.field-0 (omega (arith, some)) (omega (arith, given)) c.requires.room.0 is.told is.port is.on is.cause
+    c.in_default.field-0 (omega (arith, some)) (omega (arith, given)) c.requires.room.0 is.told is.port is.passed is.on is.cause
 
 pub push_reserved-requires : goal.push_reserved-requires
 push_reserved-requires g t c =
@@ -55,7 +55,7 @@ returns-clause-round g t c =
     round_more _ g.T.Listed.bears g.W.Serving.says (c.args.before + 1) c.args.left (g.D.Door.seen c.args.door) (g.D.Door.seen c.accept.new.self) (g.D.Door.seen c.join-visited.result.1.0)
     (pass_seen c.args.pass) (pass_seen c.split.new.pass) (pass_seen c.join-visited.result.0.1) (pass_seen c.join-visited.result.1.3) (pass_seen c.join.new.pass) (pass_seen c.in-Ok-split.own) (pass_numbers c.join-visited.result.0.1) (pass_numbers c.join-visited.result.1.3)
     (pass_numbers c.join.new.pass) (pass_splits c.join.new.pass) (pass_splits c.join-visited.result.1.3) c.in-Ok.link c.join-visited.result.0.0 c.join-visited.result.1.1.items c.push_reserved.new.self.items c.join-visited.result.1.2
-    (omega (arith, some)) joined.takes_in.splits accepted.told accepted.port accepted.on one.1.1.1 new.seen c.split.ensures.kept.seen one.1.1.0
+    (omega (arith, some)) joined.takes_in.splits accepted.told accepted.passed accepted.port accepted.on one.1.1.1 new.seen c.split.ensures.kept.seen one.1.1.0
     (ap (elements_of g.T.Listed.bears (c.args.before + 1)) new.seen ∙ none_at g.T.Listed.bears (c.args.before + 1) (pass_seen c.args.pass) c.requires.none) deep.1.1.1.1.0
     record {
       own_is = one.1.0 ∙ (new.numbers ∙ ap (λ n. n ∷ []) lane);

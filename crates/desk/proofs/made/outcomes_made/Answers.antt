@@ -30,6 +30,9 @@ returns-in_err-push-clause-err g c =
     on_err c.from_residual-in_err-push.result
     (made_after _ _ _ _ c.args.number c.args.count _ _ maker c.loop-outcomes.outcomes.items c.in-Some.call given.choice c.loop-outcomes.invariant.made is given.counted given.state)
 
+pub returns-in_err-push-clause-on : goal.returns-in_err-push-clause-on
+returns-in_err-push-clause-on g c = desk_on _ _ _ c.loop-outcomes.invariant.on c.in_ok-outcome.ensures.on
+
 pub loop-outcomes-preserved : goal.loop-outcomes-preserved
 loop-outcomes-preserved g c =
     let inv = c.loop-outcomes.invariant in
@@ -45,3 +48,6 @@ loop-outcomes-preserved g c =
 pub returns-clause-given : goal.returns-clause-given
 returns-clause-given g c =
     all_made _ _ _ c.args.number c.args.count _ c.loop-outcomes.maker c.loop-outcomes.outcomes.items c.loop-outcomes.invariant.made (c.in_ok-call.ensures.last.0 c.in_default.is)
+
+pub returns-in_err-outcome-clause-on : goal.returns-in_err-outcome-clause-on
+returns-in_err-outcome-clause-on g c = desk_on _ _ _ c.loop-outcomes.invariant.on c.in_err-outcome.ensures.on

@@ -41,3 +41,9 @@ returns-in_err-push_closing-clause-err g c = on_err c.from_residual-in_err-push_
 pub returns-clause-run : goal.returns-clause-run
 returns-clause-run g c =
     is_run_told _ _ _ _ _ _ _ _ (comes_last _ _ _ c.in_default.is c.in_ok-item.ensures.comes) c.loop-out.invariant.told c.in_ok-push_closing.ensures
+
+pub returns-in_err-answered-clause-on : goal.returns-in_err-answered-clause-on
+returns-in_err-answered-clause-on g c = desk_on _ _ _ c.loop-out.invariant.on c.in_err-answered.ensures.on
+
+pub returns-in_err-push_outcome-clause-on : goal.returns-in_err-push_outcome-clause-on
+returns-in_err-push_outcome-clause-on g c = desk_on _ _ _ c.loop-out.invariant.on c.in_ok-answered.ensures.on

@@ -22,6 +22,12 @@ returns-in_err-push_line-clause-err g c =
     on_err c.from_residual-in_err-push_line.result
     (told_after _ _ _ _ _ _ _ _ _ _ _ _ _ _ left c.loop-line.invariant.told c.in_ok-outcome.ensures.answered c.in_ok-item.ensures.forms)
 
+pub returns-in_err-outcome-clause-on : goal.returns-in_err-outcome-clause-on
+returns-in_err-outcome-clause-on g c = desk_on _ _ _ c.loop-line.invariant.on c.in_err-outcome.ensures.on
+
+pub returns-in_err-push_line-clause-on : goal.returns-in_err-push_line-clause-on
+returns-in_err-push_line-clause-on g c = desk_on _ _ _ c.loop-line.invariant.on c.in_ok-outcome.ensures.on
+
 pub loop-line-preserved : goal.loop-line-preserved
 loop-line-preserved g c =
     let is = c.in_ok-outcome.ensures in

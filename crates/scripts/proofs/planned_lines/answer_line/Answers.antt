@@ -13,3 +13,6 @@ returns-clause-count g c =
 
 pub returns-clause-on : goal.returns-clause-on
 returns-clause-on g c = desk_on _ _ _ c.in_ok-reply.ensures.on c.in_ok-made.ensures.on
+
+pub returns-in_err-made-clause-on : goal.returns-in_err-made-clause-on
+returns-in_err-made-clause-on g c = desk_on _ _ _ c.in_ok-reply.ensures.on c.in_err-made.ensures.on

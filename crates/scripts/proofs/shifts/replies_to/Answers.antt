@@ -1,5 +1,6 @@
 use Rattle.std.proofs.Common.{◌≡◌, ℕ, List, get_or, refl, sym, subst}
 use Rattle.desk.proofs.InPart.{on_err}
+use Rattle.desk.proofs.SeenLaws.{desk_on}
 use Rattle.desk.specs.Seen.{desk_seen}
 use Rattle.scripts.proofs.Looping.{begins, ends, goes_on, heard_so_far, stops, stops_at}
 use Rattle.scripts.proofs.shifts.replies_to.Goals as goal
@@ -26,6 +27,12 @@ returns-in_err-push_line-clause-err g c =
     on_err c.from_residual-in_err-push_line.result
     (stops _ _ _ _ _ _ _ _ _
     (goes_on _ c.bytes.result.now _ _ _ _ _ _ _ _ _ _ _ _ _ c.loop-line-test.true is c.loop-line.invariant made.answered made.roster made.desks made.on c.now.ensures.board c.now-in-loop-line.ensures.board refl))
+
+pub returns-in_err-reply-clause-on : goal.returns-in_err-reply-clause-on
+returns-in_err-reply-clause-on g c = desk_on _ _ _ c.loop-line.invariant.on c.in_err-reply.ensures.on
+
+pub returns-in_err-push_line-clause-on : goal.returns-in_err-push_line-clause-on
+returns-in_err-push_line-clause-on g c = desk_on _ _ _ c.loop-line.invariant.on c.in_ok-reply.ensures.on
 
 pub loop-line-preserved : goal.loop-line-preserved
 loop-line-preserved g c =

@@ -1,6 +1,7 @@
-use Rattle.std.proofs.Common.{◌≡◌}
+use Rattle.std.proofs.Common.{◌≡◌, []}
 use mathlib.Core.List.{IsPrefix}
 use Rattle.connections.specs.Connections.{GoesOn}
+use Rattle.connections.specs.Crossed.{Crosses, GoesOnBy}
 use Rattle.connections.specs.Writing.{Wrote}
 use Rattle.desk_http.specs.Requests.{unused}
 use Rattle.desk_net.specs.Seen.{LinkGoesOn}
@@ -21,5 +22,7 @@ invariant-loop g l = record {
   served : Wrote (g.N.Link.seen l.fn.link).stream (g.N.Link.seen l.link).stream
       (GoesOn (in_lane l.lane) (GoesInTurns g.A.Opened.desk.opening g.A.Opened.clock.dial l.lane (pass_seen l.fn.pass) (pass_seen l.pass)) (unread (g.N.Link.seen l.fn.link).stream)
       (unused l.buffer (unread (g.N.Link.seen l.link).stream)));
+  crossed : Crosses (g.N.Link.seen l.fn.link).crossed (g.N.Link.seen l.link).crossed
+      (GoesOnBy (in_lane l.lane) (GoesInTurns g.A.Opened.desk.opening g.A.Opened.clock.dial l.lane (pass_seen l.fn.pass) (pass_seen l.pass)) [] l.buffer);
   link : LinkGoesOn (g.N.Link.seen l.fn.link) (g.N.Link.seen l.link);
 }

@@ -1,0 +1,67 @@
+use desk_io::Failed;
+use desk_net::{Link, TcpLink};
+use std::net::{Net, OpenStream, SocketAddr};
+use std::random::RandomSource;
+use std::time::Duration;
+use std::{io, time};
+
+/// How many seconds a connection may take to be made.
+pub const DIAL_SECONDS: u64 = 10;
+
+/// Makes connections to the server.
+pub trait Dial {
+    /// The type of its connections.
+    type Link: Link + Drop;
+
+    /// Makes a new connection.
+    fn dial(&mut self) -> Result<Self::Link, Failed>;
+
+    /// Returns bytes that nobody can predict.
+    fn nonce(&mut self) -> Result<[u8; 24], Failed>;
+}
+
+/// Connects over TCP. A connection must be made within `DIAL_SECONDS`; each read and write of its link then has the
+/// link's own timeout. The bytes aren't encrypted: use a private network or a tunnel.
+#[derive(Drop)]
+pub struct TcpDial<R: Net + RandomSource + time::Clock + Copy> {
+    net: R,
+    address: SocketAddr,
+}
+
+impl<R: Net + RandomSource + time::Clock + Copy> TcpDial<R> {
+    /// Creates a dial to this address. Connects to nothing yet.
+    pub fn new(net: R, address: SocketAddr) -> Self {
+        TcpDial { net, address }
+    }
+
+    fn connected(&self) -> io::Result<TcpLink<R::Stream, R>> {
+        let limit = Duration::from_secs(DIAL_SECONDS);
+        let stream = self.net.connect_timeout(self.address, limit)?;
+        stream.set_nodelay(true)?;
+        TcpLink::new(stream, self.net)
+    }
+
+    fn drawn(&self) -> io::Result<[u8; 24]> {
+        let mut bytes = [0u8; 24];
+        self.net.fill_bytes(&mut bytes)?;
+        Ok(bytes)
+    }
+}
+
+impl<R: Net + RandomSource + time::Clock + Copy> Dial for TcpDial<R> {
+    type Link = TcpLink<R::Stream, R>;
+
+    fn dial(&mut self) -> Result<TcpLink<R::Stream, R>, Failed> {
+        match self.connected() {
+            Ok(link) => Ok(link),
+            Err(_) => Err(Failed),
+        }
+    }
+
+    fn nonce(&mut self) -> Result<[u8; 24], Failed> {
+        match self.drawn() {
+            Ok(bytes) => Ok(bytes),
+            Err(_) => Err(Failed),
+        }
+    }
+}

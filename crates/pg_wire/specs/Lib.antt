@@ -1,0 +1,4 @@
+pub mod Crossing
+pub mod Frontend
+pub mod Backend
+pub mod Answers

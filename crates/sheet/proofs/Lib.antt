@@ -1,0 +1,15 @@
+pub mod NearestLaws
+pub mod LineLaws
+pub mod TimeLaws
+pub mod WeatherLaws
+pub mod NeedLaws
+pub mod EquipmentLaws
+pub mod FuelLaws
+pub mod OriginLaws
+pub mod SourceLaws
+pub mod SheetLaws
+pub mod EachLine
+pub mod WorldLaws
+pub mod KeyLaws
+pub mod AppliesLaws
+pub mod HoldLaws

@@ -1,0 +1,13 @@
+pub mod Nearest
+pub mod Lines
+pub mod Circumstances
+pub mod Time
+pub mod Sources
+pub mod Origins
+pub mod Weather
+pub mod Needs
+pub mod Equipment
+pub mod Fuel
+pub mod World
+pub mod Applies
+pub mod Sheet

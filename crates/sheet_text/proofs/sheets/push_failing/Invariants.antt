@@ -1,0 +1,8 @@
+use Rattle.std.proofs.Common.{◌≡◌, ◌++◌, drop}
+use Rattle.std.specs.Prelude.{filter}
+use Rattle.sheet.specs.Lines.{fails}
+use Rattle.sheet_text.specs.Text.{lines_text}
+use Rattle.sheet_text.proofs.sheets.push_failing.Given as goal
+
+abbrev pub invariant-loop-line : goal.invariant-loop-line
+invariant-loop-line l = l.out.items ++ lines_text (filter fails (drop l.line-index l.lines)) ≡ l.initial.out.items ++ lines_text (filter fails l.lines)

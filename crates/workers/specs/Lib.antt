@@ -1,0 +1,4 @@
+pub mod Passages
+pub mod Doorways
+pub mod Work
+pub mod Staying
