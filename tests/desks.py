@@ -413,11 +413,19 @@ class Service:
         self.__exit__()
         raise Differs("nothing listens at port %d: status %s" % (self.port, status))
 
-    def __exit__(self, *_):
+    def __exit__(self, kind=None, fault=None, *_):
+        """Kills it, and tells of one that had ended by itself if the block fails."""
         if self.process.returncode is None:
+            status = self.process.poll()
             self.process.kill()
             self.process.wait()
+            if fault is not None and status is not None:
+                fault.add_note("the service had ended with status %d and wrote %r" % (status, self.written()))
         self.out.close()
+
+    def written(self):
+        """What it has written to standard output, at most its first 300 bytes."""
+        return os.pread(self.out.fileno(), 300, 0)
 
     def ended(self, seconds=2 * PATIENCE):
         status, most = wait(self.process, seconds)
@@ -445,9 +453,12 @@ class Staying(Service):
         self.err = tempfile.TemporaryFile()
         self.start(desk, port or free_port(), "stay", err=self.err)
 
-    def __exit__(self, *_):
-        super().__exit__()
+    def __exit__(self, *fault):
+        super().__exit__(*fault)
         self.err.close()
+
+    def written(self):
+        return super().written() + self.told().encode()
 
     def told(self):
         """What it has written to standard error so far."""
@@ -487,7 +498,7 @@ def passes(case, *words):
         print("%s: skipped: %s" % (name, why), flush=True)
         return None
     except Exception as fault:
-        print("%s: FAILED: %s" % (name, fault if isinstance(fault, Differs) else repr(fault)), flush=True)
+        print("%s: FAILED: %s" % (name, fault if isinstance(fault, Differs) else repr(fault)), *getattr(fault, "__notes__", ()), sep="\n", flush=True)
         return False
     print("%s: %s (%.0f s)" % (name, shown_by, time.monotonic() - began), flush=True)
     return True
