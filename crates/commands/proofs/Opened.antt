@@ -3,8 +3,8 @@ use Rattle.std.proofs.Common.{◌≡◌, ℕ, ◌≤◌, Bool, true, List, [], m
 use Rattle.std.specs.Prelude.{Ok, Err}
 use Rattle.std.specs.List.{concat}
 use Rattle.alerts.specs.Seen.{BellSeen}
-use Rattle.scripts.specs.Below.{Shown, shown, numbers_of, AreAsked, IsEntered, IsLeft, IsOfKeeper, IsOpened, IsWhy, MayHaveAsked, NotEntered, OpensOver, TellsRowsOf, board_of, OpenWhy, AreGivenInPart, IsRun, Desk, DeskAt, DeskGoesOn, desk_at, desk_seen, IsBoard, State, Item}
-use Rattle.scripts.proofs.Below.{rise_lower, rise_within, entered_on}
+use Rattle.scripts.specs.Below.{Shown, shown, numbers_of, AreAsked, IsLeft, IsOfKeeper, IsOpened, IsWhy, MayHaveAsked, NotEntered, OpensOver, TellsRowsOf, board_of, OpenWhy, AreGivenInPart, IsRunOf, KeptAt, stored_in, Desk, DeskAt, DeskGoesOn, desk_at, desk_seen, IsBoard, State, Item}
+use Rattle.scripts.proofs.Below.{rise_lower, rise_within, entered_on, opened_stored}
 use Rattle.desk_io.specs.Health.{HasFailed}
 use Rattle.desk_io.specs.Over.{Over, over}
 use Rattle.desk_io.specs.Rows.{Rows}
@@ -13,29 +13,35 @@ use Rattle.keeper.specs.Seen.{KeeperSeen, KeeperGoesOn}
 use Rattle.ops_tables.specs.Tables.{TableRows}
 use Rattle.commands.specs.Faults.{Outcome, of_opening}
 use Rattle.commands.specs.Seen.{lent as lent_over, Lent}
-use Rattle.commands.specs.Working.{AsksAfter, AsksToOpen, Opens, Ends, desk_over, since}
+use Rattle.commands.specs.Working.{AsksAfter, AsksToOpen, Opens, Ends, desk_over, since, stored_to_open}
 use Rattle.commands.specs.declared.fault.Fault.TheVariants.{OutOfMemory}
 use Rattle.commands.specs.declared.working.Ended.{Ended}
 
 -- a run that counts from before
-pub run_lower : (less before after : ℕ) (s : State) (script : List ℕ) (t : State) (text : List ℕ) → less ≤ before → IsRun before after s script t text → IsRun less after s script t text
-run_lower less before after s script t text under run =
-    let within = rise_within before (concat (map numbers_of run.choices)) after run.counted in
+pub run_lower : (less : ℕ) (before after : KeptAt) (s : State) (items : List Item) (t : State) (text : List ℕ) → less ≤ before.faults → IsRunOf before after s items t text
+    → IsRunOf (record { faults = less; stored = before.stored }) after s items t text
+run_lower less before after s items t text under run =
+    let within = rise_within before.faults (concat (map numbers_of run.choices)) after.faults run.counted in
     record {
       choices = run.choices;
-      counted = rise_lower less before (concat (map numbers_of run.choices)) after under run.counted;
+      counted = rise_lower less before.faults (concat (map numbers_of run.choices)) after.faults under run.counted;
+      stored = run.stored;
       says = run.says;
       state = run.state;
       steady = λ same. run.steady (omega (arith, same, under, within));
     }
 
-pub items_lower : (less before after : ℕ) (s : State) (items : List Item) (t : State) → less ≤ before → AreGivenInPart 1 before after s items t → AreGivenInPart 1 less after s items t
+pub items_lower : (less : ℕ) (before after : KeptAt) (s : State) (items : List Item) (t : State) → less ≤ before.faults → AreGivenInPart 1 before after s items t
+    → AreGivenInPart 1 (record { faults = less; stored = before.stored }) after s items t
 items_lower less before after s items t under part = record {
   front = part.front;
   left = part.left;
   choices = part.choices;
   whole = part.whole;
-  counted = rise_lower less before (concat (map numbers_of part.choices)) after under part.counted;
+  kept = part.kept;
+  counted = rise_lower less before.faults (concat (map numbers_of part.choices)) part.kept.faults under part.counted;
+  stored = part.stored;
+  later = part.later;
   state = part.state;
 }
 
@@ -83,6 +89,7 @@ module _ {K B : Type 0} (seen : K → KeeperSeen) (heard : B → BellSeen) (tabl
   opened_over : (desk done : Desk K B) (answer : Outcome) → IsOpened (seen lent).rows tables desk.board → KeeperGoesOn (seen lent) (seen desk.keeper) → OpensOver (seen lent) (seen desk.keeper) tables desk.board
       → DeskGoesOn (desk_seen seen heard desk) (desk_seen seen heard done) → ((less : ℕ) → less ≤ (seen desk.keeper).health.faults → Works (since less (over (desk_at seen) desk done)) answer) → IsBoard done.board.opening done.board.state
       → Opens tables Works (lent_over seen lent done.keeper) (Some done.board) answer
+  unfolding entered_on
   opened_over desk done answer opened lasts kept goes works holds =
       let first = ap (λ (b : Shown). b.state) opened.shows ∙ sym (ap (λ (b : Shown). b.opening) opened.shows) ∙ sym goes.opening in
       let less = (seen lent).health.faults in (
@@ -93,12 +100,13 @@ module _ {K B : Type 0} (seen : K → KeeperSeen) (heard : B → BellSeen) (tabl
           opening = goes.opening ∙ ap (λ (b : Shown). b.opening) opened.shows;
           holds = holds;
           entered =
-              subst (λ (o : State). IsEntered (seen lent).account (seen done.keeper).account tables o done.board.state) (sym goes.opening)
-              (entered_on (seen lent).account (seen desk.keeper).account (seen done.keeper).account tables desk.board.opening desk.board.state done.board.state kept.entered goes.saves);
+              entered_on (seen lent).account (seen desk.keeper).account (seen done.keeper).account tables done.board.opening desk.board.opening desk.board.state done.board.state goes.opening kept.entered goes.saves;
           kept = goes.rows kept.kept;
         },
-        subst (λ (s : State). Works (record { before = record { state = s; faults = less }; after = desk_at seen done }) answer) first
-            (works less lasts.health.later),
+        subst (λ (bs : List Bool). Works (record { before = record { state = done.board.opening; kept = record { faults = less; stored = bs } }; after = desk_at seen done }) answer)
+            (opened_stored (seen lent) (seen desk.keeper) tables desk.board kept)
+            (subst (λ (s : State). Works (record { before = record { state = s; kept = record { faults = less; stored = stored_in (seen desk.keeper).account } }; after = desk_at seen done }) answer) first
+            (works less lasts.health.later)),
       )
 
   -- what is given back is the desk on which the work was done
@@ -139,7 +147,7 @@ does_by seen own desk done Works answer same does =
 pub opens_with : (tables : TableRows) (P Q : Over DeskAt → Outcome → Type 0) (keeper : Lent) (board : Option Shown) (answer : Outcome) → ((desk : Over DeskAt) → P desk answer → Q desk answer)
     → Opens tables P keeper board answer → Opens tables Q keeper board answer
 opens_with tables P Q keeper None answer more opens = opens
-opens_with tables P Q keeper (Some board) answer more opens = (opens.0, more (desk_over keeper board) opens.1)
+opens_with tables P Q keeper (Some board) answer more opens = (opens.0, more (desk_over (stored_to_open tables keeper board opens.0) keeper board) opens.1)
 
 -- ---- what was asked of the keeper
 

@@ -1,10 +1,11 @@
 -- Bells that were rung over a desk that was opened.
-use Rattle.std.proofs.Common.{◌≡◌, ℕ, ◌+◌, ◌≤◌, List, [], ◌∷◌, Option, None, Some, refl, ap, sym, ◌∙◌, subst}
+use Rattle.std.proofs.Common.{◌≡◌, ℕ, ◌+◌, ◌≤◌, Bool, List, [], ◌∷◌, Option, None, Some, refl, ap, sym, ◌∙◌, subst}
 use Rattle.std.specs.Prelude.{Ok, Err}
 use Rattle.alerts.proofs.RungLaws.{are_rung_none}
 use Rattle.alerts.specs.Ringing.{AreRung, Hung, dropped, fresh_from, hung_all, staying}
 use Rattle.alerts.specs.Seen.{BellSeen}
-use Rattle.scripts.specs.Below.{Shown, told_by_all, IsOpened, DeskGoesOn, desk_at, desk_seen, Desk, IsBoard, State}
+use Rattle.scripts.proofs.Below.{keeper_later}
+use Rattle.scripts.specs.Below.{Shown, told_by_all, IsOpened, DeskGoesOn, desk_at, desk_seen, Desk, IsBoard, KeptAt, State, kept_at}
 use Rattle.commands.proofs.Reading.{between, whole_as}
 use Rattle.commands.specs.Bells.{AreRungAfter, AreRungBy, AreRungIn, AreRungOver, AreRungSeated, AreRungUnder, IsRungInShifts}
 use Rattle.commands.specs.Faults.{Outcome}
@@ -51,20 +52,26 @@ none_leaves (b ∷ bells) place = none_leaves bells (place + 1)
 -- ---- a run of shifts
 
 -- a run that began in the opening state, where the keeper's faults are counted from before
-rung_shifts : (less before after : ℕ) (opening s t : State) (script text : List ℕ) (board : Shown) (old new : List Hung) → less ≤ before → IsSeatedRun opening before after s script t text old new → s ≡ opening
-    → board.opening ≡ opening → board.state ≡ t → IsSeatedRun board.opening less after board.opening script board.state text old new
+rung_shifts : (less : ℕ) (before after : KeptAt) (opening s t : State) (script text : List ℕ) (board : Shown) (old new : List Hung) → less ≤ before.faults → IsSeatedRun opening before after s script t text old new → s ≡ opening
+    → board.opening ≡ opening → board.state ≡ t → IsSeatedRun board.opening (record { faults = less; stored = before.stored }) after board.opening script board.state text old new
 rung_shifts less before after opening s t script text board old new under run first begun ended =
-    let lower : IsSeatedRun opening less after s script t text old new = seated_run_lower less before after opening s script t text old new under run in
-    let at : IsSeatedRun opening less after opening script t text old new = subst (λ (u : State). IsSeatedRun opening less after u script t text old new) first lower in
-    let from : IsSeatedRun board.opening less after board.opening script t text old new = subst (λ (o : State). IsSeatedRun o less after o script t text old new) (sym begun) at in
-    subst (λ (u : State). IsSeatedRun board.opening less after board.opening script u text old new) (sym ended) from
+    let low : KeptAt = record { faults = less; stored = before.stored } in
+    let lower : IsSeatedRun opening low after s script t text old new = seated_run_lower less before after opening s script t text old new under run in
+    let at : IsSeatedRun opening low after opening script t text old new = subst (λ (u : State). IsSeatedRun opening low after u script t text old new) first lower in
+    let from : IsSeatedRun board.opening low after board.opening script t text old new = subst (λ (o : State). IsSeatedRun o low after o script t text old new) (sym begun) at in
+    subst (λ (u : State). IsSeatedRun board.opening low after board.opening script u text old new) (sym ended) from
 
 seated_by : {K : Type 0} {B : Type 0} (seen : K → KeeperSeen) (heard : B → BellSeen) (lent : K) (desk done : Desk K B) (script : List ℕ) (old new : List Hung) (answer : Outcome)
-    → RunsSeated desk.board.opening script (over (desk_at seen) desk done) old new answer → (seen lent).health.faults ≤ (seen desk.keeper).health.faults → desk.board.state ≡ desk.board.opening
+    → RunsSeated desk.board.opening script (over (desk_at seen) desk done) old new answer → KeeperGoesOn (seen lent) (seen desk.keeper) → desk.board.state ≡ desk.board.opening
     → done.board.opening ≡ desk.board.opening → IsRungInShifts script (lent_over seen lent done.keeper) done.board answer old new
-seated_by seen heard lent desk done script old new (Ok text) runs under first begun =
-    rung_shifts (seen lent).health.faults (seen desk.keeper).health.faults (seen done.keeper).health.faults desk.board.opening desk.board.state done.board.state script text done.board old new under runs first begun refl
-seated_by seen heard lent desk done script old new (Err fault) runs under first begun = tt
+seated_by seen heard lent desk done script old new (Ok text) runs lasts first begun =
+    let less = (seen lent).health.faults in
+    let opened = keeper_later (seen lent) (seen desk.keeper) lasts in (
+      opened.asked,
+      subst (λ (bs : List Bool). IsSeatedRun done.board.opening (record { faults = less; stored = bs }) (kept_at (seen done.keeper)) done.board.opening script done.board.state text old new) opened.stored
+          (rung_shifts less (kept_at (seen desk.keeper)) (kept_at (seen done.keeper)) desk.board.opening desk.board.state done.board.state script text done.board old new lasts.health.later runs first begun refl),
+    )
+seated_by seen heard lent desk done script old new (Err fault) runs lasts first begun = tt
 
 pub rung_seated : {K B : Type 0} (seen : K → KeeperSeen) (heard : B → BellSeen) (told : Option Rows) (tables : TableRows) (lent : K) (desk done : Desk K B) (said : Ended K B) (script texts_first : List ℕ) (answer : Outcome) (old new bells : List Hung)
     → said.answer ≡ answer → said.board ≡ Some done.board → said.keeper ≡ done.keeper → bells ≡ new → script ≡ texts_first → IsOpened told tables desk.board → KeeperGoesOn (seen lent) (seen desk.keeper)
@@ -73,7 +80,7 @@ pub rung_seated : {K B : Type 0} (seen : K → KeeperSeen) (heard : B → BellSe
 rung_seated {K} seen heard told tables lent desk done said script texts_first answer old new bells answer_is board_is keeper_is bells_are script_is opened lasts goes some runs =
     let first : desk.board.state ≡ desk.board.opening = ap (λ (b : Shown). b.state) opened.shows ∙ sym (ap (λ (b : Shown). b.opening) opened.shows) in
     let one = subst (λ text. IsRungInShifts text (lent_over seen lent done.keeper) done.board answer old new) script_is
-    (seated_by seen heard lent desk done script old new answer runs lasts.health.later first goes.opening) in
+    (seated_by seen heard lent desk done script old new answer runs lasts first goes.opening) in
     let two = subst (λ now. HaveHeardSome old now × IsRungInShifts texts_first (lent_over seen lent done.keeper) done.board answer old now) (sym bells_are) (some, one) in
     let three = subst (λ (a : Outcome). HaveHeardSome old bells × IsRungInShifts texts_first (lent_over seen lent done.keeper) done.board a old bells) (sym answer_is) two in
     let four = subst (λ (k : K). HaveHeardSome old bells × IsRungInShifts texts_first (lent_over seen lent k) done.board said.answer old bells) (sym keeper_is) three in

@@ -34,7 +34,7 @@ use Rattle.commands.specs.Faults.{Gives, Outcome, of_opening, of_tables, status_
 use Rattle.commands.specs.Seen.{Lent, Service, lent as lent_over, service}
 use Rattle.commands.specs.Sources.{FailsAt, ReadsFiles, ReadsSources, SourceFails, TablesFail, first_of, from_reads, sources_of, AreWhole}
 use Rattle.commands.specs.Weather.{weather_text}
-use Rattle.commands.specs.Working.{EndSays, Opens, desk_over, AsksNothing, Does, Ends, serves}
+use Rattle.commands.specs.Working.{EndSays, Opens, desk_over, stored_to_open, AsksNothing, Does, Ends, serves}
 use Rattle.commands.specs.declared.fault.Fault.{Fault}
 use Rattle.commands.specs.declared.fault.Fault.TheVariants.{Usage, ReadFault, WriteFault, KeeperFault, BadTable, BadRow, BadPair, OutOfMemory, DoorFault, InputTooLong, ClockFault, BadInput}
 use Rattle.words.specs.declared.task.DeskTask.{DeskTask}
@@ -217,7 +217,7 @@ module _ {K C D L : Type 0} (k : K → KeeperSeen) (c : C → ClockSeen) (d : D 
       let tells = why_tells (charges command) (k lent).rows _ un.why (λ failed. failed) (λ rows. rows) un.is (λ rows. un.left rows.0 rows.1 rows.2) in
       record { keeper = goes; are_kept = un.rows; holds = tt; served = idle_served command answer (idle refl) (subst (TellsBy (charges command)) (sym un.says) tells) }
   opens_follow command tables Works (Some b) answer goes opens idle served =
-      record { keeper = goes; are_kept = (tables, opens.0); holds = opens.0.holds; served = served (desk_over rows_over b) opens.1 }
+      record { keeper = goes; are_kept = (tables, opens.0); holds = opens.0.holds; served = served (desk_over (stored_to_open tables rows_over b opens.0) rows_over b) opens.1 }
 
   -- the answer is a fault, and nothing was touched
   abbrev IsFault : Option Shown → Outcome → Fault → Type 0

@@ -1,11 +1,11 @@
 -- What becomes of the bells that the program is given.
-use Rattle.std.specs.Prelude.{◌≡◌, List, ℕ, Option, None, Some, Ok, Err}
+use Rattle.std.specs.Prelude.{◌≡◌, Bool, List, ℕ, Option, None, Some, Ok, Err}
 use Rattle.alerts.specs.Ringing.{AreRung, DroppedSeen, Hung, dropped, fresh_from, staying}
 use Rattle.alerts.specs.Seen.{BellSeen}
 use Rattle.desk_io.specs.Over.{Over}
 use Rattle.desk_io.specs.Seen.{ShelfSeen}
 use Rattle.desk_io.specs.declared.source_read.SourceRead.{SourceRead}
-use Rattle.scripts.specs.Below.{Shown, told_by_all}
+use Rattle.scripts.specs.Below.{Shown, kept_at, told_by_all}
 use Rattle.scripts.specs.ShiftLines.{HaveHeardSome}
 use Rattle.scripts.specs.ShiftRuns.{IsSeatedRun}
 use Rattle.words.specs.declared.task.DeskTask.{DeskTask}
@@ -13,7 +13,7 @@ use Rattle.words.specs.declared.task.DeskTask.TheVariants.{Shifts}
 use Rattle.words.specs.declared.task.Task.{Task}
 use Rattle.words.specs.declared.task.Task.TheVariants.{Desk}
 use Rattle.commands.specs.Faults.{Outcome}
-use Rattle.commands.specs.Seen.{Lent}
+use Rattle.commands.specs.Seen.{Lent, kept_with}
 use Rattle.commands.specs.Sources.{ReadsSources, first_of, from_reads}
 
 -- The bells are rung for the notices of the board's history, in order. Without a board none is rung.
@@ -25,7 +25,7 @@ AreRungOver (Some board) old new = AreRung (told_by_all board.opening board.stat
 -- the desks when the notices were made, and these are the notices of the board's history.
 abbrev pub IsRungInShifts : List ℕ → Lent → Shown → Outcome → List Hung → List Hung → Type 0
 IsRungInShifts script keeper board (Ok text) old new =
-    IsSeatedRun board.opening keeper.before.health.faults keeper.after.health.faults board.opening script board.state text old new
+    (opened : List Bool) × IsSeatedRun board.opening (kept_with opened keeper) (kept_at keeper.after) board.opening script board.state text old new
 IsRungInShifts script keeper board (Err fault) old new = Unit {0}
 
 -- Whatever came of the run, the bells that stay are in their order, and each that was dropped has failed. Without a board

@@ -1,7 +1,7 @@
 -- The desk that a command opens, and the work of each command on it.
 use Rattle.std.specs.Prelude.{◌≡◌, ◌≢◌, ℕ, ◌≤◌, Bool, true, false, List, Option, None, Some, Result, Ok, Err}
 use Rattle.alerts.specs.Ringing.{Hung}
-use Rattle.scripts.specs.Below.{Shown, Record, state_in, reopened, KeepsState, AreGivenInPart, IsRunInPart, items_of_lines, IsMade, IsMadeInPart, AreAsked, AreLoaded, IsEntered, IsLeft, IsOfKeeper, IsWhy, MayHaveAsked, NotEntered, TellsRowsOf, IsRace, IsRaceInPart, IsRun, IsRunOf, DeskAt, OpenWhy, IsBoard, State, grounds_of, closing}
+use Rattle.scripts.specs.Below.{Shown, Record, state_in, reopened, KeepsState, AreGivenInPart, IsRunInPart, items_of_lines, IsMade, IsMadeInPart, AreAsked, AreLoaded, IsEntered, IsLeft, IsOfKeeper, IsWhy, MayHaveAsked, NotEntered, TellsRowsOf, IsRace, IsRaceInPart, IsRun, IsRunOf, DeskAt, OpenWhy, IsBoard, State, grounds_of, closing, kept_at, stored_at_opening}
 use Rattle.scripts.specs.PlannedHistory.{IsPlanned}
 use Rattle.scripts.specs.PlannedRuns.{IsPlannedInPart}
 use Rattle.scripts.specs.ShiftRuns.{IsSeatedRun, IsShiftRun, IsShiftRunInPart}
@@ -22,6 +22,7 @@ use Rattle.connections.specs.declared.doors.ServeEnd.TheVariants as ends
 use Rattle.desk_net.specs.Doors.{Links}
 use Rattle.service.specs.Staying.{IsStaying}
 use Rattle.service.specs.Doors.{IsServing}
+use Rattle.service.specs.Shared.{counted_from}
 use Rattle.table_files.specs.declared.faults.BadTable.{BadTable as ABadTable}
 use Rattle.table_files.specs.declared.faults.TableWhy.TheVariants.{BadField}
 use Rattle.words.specs.declared.task.DeskTask.{DeskTask}
@@ -30,7 +31,7 @@ use Rattle.words.specs.declared.task.Task.{Task}
 use Rattle.words.specs.declared.task.Task.TheVariants.{Desk}
 use Rattle.commands.specs.Explained.{check_text, why_text}
 use Rattle.commands.specs.Faults.{Gives, Outcome, of_opening}
-use Rattle.commands.specs.Seen.{Lent, Service}
+use Rattle.commands.specs.Seen.{Lent, Service, kept_with}
 use Rattle.commands.specs.Inputs.{AreStated, IsFirstBad, IsNoPlan}
 use Rattle.commands.specs.Sources.{first_of}
 use Rattle.commands.specs.declared.fault.BadInput.{BadInput as ABadInput}
@@ -75,8 +76,8 @@ Ends Whole Part (Err other) = ⊥
 -- A script was run on a desk.
 abbrev pub Runs : List ℕ → Over DeskAt → Outcome → Type 0
 Runs script desk =
-    Ends (IsRun desk.before.faults desk.after.faults desk.before.state script desk.after.state)
-    (IsRunInPart desk.before.faults desk.after.faults desk.before.state script desk.after.state)
+    Ends (IsRun desk.before.kept desk.after.kept desk.before.state script desk.after.state)
+    (IsRunInPart desk.before.kept desk.after.kept desk.before.state script desk.after.state)
 
 -- a text, or out of memory
 abbrev pub told_of : {E : Type 0} → Result (List ℕ) E → Outcome
@@ -86,20 +87,20 @@ told_of (Err e) = Err OutOfMemory
 -- Scripts were raced on a desk.
 abbrev pub Races : List (List ℕ) → Over DeskAt → Outcome → Type 0
 Races scripts desk =
-    Ends (IsRace desk.before.faults desk.after.faults desk.before.state scripts desk.after.state)
-    (IsRaceInPart desk.before.faults desk.after.faults desk.before.state scripts desk.after.state)
+    Ends (IsRace desk.before.kept desk.after.kept desk.before.state scripts desk.after.state)
+    (IsRaceInPart desk.before.kept desk.after.kept desk.before.state scripts desk.after.state)
 
 -- The lines of an import were answered on a desk, as the lines of a script are.
 abbrev pub Imports : List Line → Over DeskAt → Outcome → Type 0
 Imports lines desk =
-    Ends (IsRunOf desk.before.faults desk.after.faults desk.before.state (items_of_lines lines) desk.after.state)
-    (AreGivenInPart 1 desk.before.faults desk.after.faults desk.before.state (items_of_lines lines) desk.after.state)
+    Ends (IsRunOf desk.before.kept desk.after.kept desk.before.state (items_of_lines lines) desk.after.state)
+    (AreGivenInPart 1 desk.before.kept desk.after.kept desk.before.state (items_of_lines lines) desk.after.state)
 
 -- The calls of a seed for `count` flights were made on a desk. The text has three lines of counts.
 abbrev pub Makes : ℕ → ℕ → Over DeskAt → Outcome → Type 0
 Makes number count desk =
-    Ends (IsMade desk.before.faults desk.after.faults desk.before.state number count desk.after.state)
-    (IsMadeInPart desk.before.faults desk.after.faults desk.before.state number count desk.after.state)
+    Ends (IsMade desk.before.kept desk.after.kept desk.before.state number count desk.after.state)
+    (IsMadeInPart desk.before.kept desk.after.kept desk.before.state number count desk.after.state)
 
 -- The text is the advice on each leg of a plan, by what the desk holds at its moment. Nothing on the desk changes.
 abbrev pub Advises : Plan → List Candidate → Over DeskAt → Outcome → Type 0
@@ -117,20 +118,20 @@ Checks plan desk answer = Gives (λ text. text ≡ check_text desk.before.state 
 -- A script of planned redispatches was run on a desk.
 abbrev pub RunsPlanned : List ℕ → Over DeskAt → Outcome → Type 0
 RunsPlanned script desk =
-    Ends (IsPlanned desk.before.faults desk.after.faults desk.before.state script desk.after.state)
-    (IsPlannedInPart desk.before.faults desk.after.faults desk.before.state script desk.after.state)
+    Ends (IsPlanned desk.before.kept.faults desk.after.kept.faults desk.before.state script desk.after.state)
+    (IsPlannedInPart desk.before.kept.faults desk.after.kept.faults desk.before.state script desk.after.state)
 
 -- A script of shifts was run on a desk.
 abbrev pub RunsShifts : List ℕ → Over DeskAt → Outcome → Type 0
 RunsShifts script desk =
-    Ends (IsShiftRun desk.before.faults desk.after.faults desk.before.state script desk.after.state)
-    (IsShiftRunInPart desk.before.faults desk.after.faults desk.before.state script desk.after.state)
+    Ends (IsShiftRun desk.before.kept desk.after.kept desk.before.state script desk.after.state)
+    (IsShiftRunInPart desk.before.kept desk.after.kept desk.before.state script desk.after.state)
 
 -- the same on a desk with this opening state, and bells were rung at whoever sat at the desks
 abbrev pub RunsSeated : State → List ℕ → Over DeskAt → List Hung → List Hung → Outcome → Type 0
 RunsSeated opening script desk old new =
-    Ends (λ text. IsSeatedRun opening desk.before.faults desk.after.faults desk.before.state script desk.after.state text old new)
-    (IsShiftRunInPart desk.before.faults desk.after.faults desk.before.state script desk.after.state)
+    Ends (λ text. IsSeatedRun opening desk.before.kept desk.after.kept desk.before.state script desk.after.state text old new)
+    (IsShiftRunInPart desk.before.kept desk.after.kept desk.before.state script desk.after.state)
 
 -- ---- the commands
 
@@ -242,21 +243,27 @@ pub record IsUnopened (tables : TableRows) (keeper : Lent) (answer : Outcome) : 
   -- the same by the keeper's account, in which no commit was done
   pub unentered : NotEntered keeper.before.account keeper.after.account tables why
 
--- the desk at its opening, with the keeper's count from before, and the desk now
-abbrev pub desk_over : Lent → Shown → Over DeskAt
-desk_over keeper board = record {
-  before = record { state = board.opening; faults = keeper.before.health.faults };
-  after = record { state = board.state; faults = keeper.after.health.faults };
+-- The commits of that opening: one that was stored, if opening changed the rows, otherwise none.
+abbrev pub stored_to_open : (tables : TableRows) (keeper : Lent) (board : Shown) → IsOpenOver tables keeper board → List Bool
+stored_to_open tables keeper board over = stored_at_opening tables over.entered.records over.entered.first
+
+-- The desk at its opening, and the desk now. The keeper's faults are counted from before opening, and its commits are those
+-- of before and of opening.
+abbrev pub desk_over : List Bool → Lent → Shown → Over DeskAt
+desk_over opened keeper board = record {
+  before = record { state = board.opening; kept = kept_with opened keeper };
+  after = record { state = board.state; kept = kept_at keeper.after };
 }
 
 -- the same desk, with the keeper's faults counted from an earlier count
 abbrev pub since : ℕ → Over DeskAt → Over DeskAt
-since less desk = record desk { before = record desk.before { faults = less } }
+since less desk = record { before = counted_from less desk.before; after = desk.after }
 
 -- A desk is opened over the rows, and the work is done on it; or no desk is opened.
 abbrev pub Opens : TableRows → (Over DeskAt → Outcome → Type 0) → Lent → Option Shown → Outcome → Type 0
 Opens tables Works keeper None answer = IsUnopened tables keeper answer
-Opens tables Works keeper (Some board) answer = IsOpenOver tables keeper board × Works (desk_over keeper board) answer
+Opens tables Works keeper (Some board) answer =
+    (over : IsOpenOver tables keeper board) × Works (desk_over (stored_to_open tables keeper board over) keeper board) answer
 
 -- ---- what is asked of the keeper
 

@@ -15,13 +15,15 @@ use Rattle.desk_state.specs.Lanes as lanes
 use Rattle.desk_state.specs.Lanes.{outcomes, after_items}
 use Rattle.desk_state.specs.State.{State, is_full}
 use Rattle.desk_state.specs.Step.{Stepped, stay, answer_call, tick_to, tick_unless, ticked, full_reply}
-use Rattle.desk_state.specs.Requests.{kept_at}
+use Rattle.desk_state.specs.Requests.{kept_at as reply_kept_at}
 use Rattle.desk_state.specs.declared.lanes.Item.{Item}
 use Rattle.desk_state.specs.declared.lanes.Item.TheVariants as item
 use Rattle.desk_state.specs.declared.lanes.Outcome.{Outcome}
 use Rattle.desk_state.specs.declared.lanes.Said.TheVariants as said
 use Rattle.asks.specs.declared.bad_call.BadCall.{BadCall}
-use Rattle.desk.specs.Keeping.{Choice, Given, GivenBetween, given, no_choice, adds, kept_or, unkept_if, once_ticked, made_after, made_by, answer_with, item_with, bad_given, commits_after_item, outcomes_with, after_with, Rise, numbers_of, AreNow, Counted, CountedOnce, IsGiven, AreGiven, AreGivenSoFar}
+use Rattle.desk.specs.Keeping.{Asks, Choice, Given, GivenBetween, KeptAt, given, no_choice, adds, kept_at, kept_or, unkept_if, once_ticked, made_after, made_by, answer_with, item_with, bad_given, asked_all, asked_item, outcomes_with, after_with, Rise, numbers_of, AreNow, Counted, CountedOnce, IsGiven, AreGiven, AreGivenSoFar}
+use Rattle.desk.specs.Saved.{stored_in}
+use Rattle.keeper.specs.Seen.{KeeperSeen}
 use Rattle.desk.specs.declared.answering.Answered.{Answered}
 
 -- ---- the counts
@@ -53,7 +55,7 @@ counted_on before cs ds middle after one two =
 
 -- ---- the counts of one call
 
-choice_as : (c : Choice) (tick call : Option ℕ) → c.tick ≡ tick → c.call ≡ call → c ≡ record { tick = tick; call = call }
+pub choice_as : (c : Choice) (tick call : Option ℕ) → c.tick ≡ tick → c.call ≡ call → c ≡ record { tick = tick; call = call }
 choice_as c tick call one two = ap (λ (o : Option ℕ). record { tick = o; call = c.call }) one ∙ ap (λ (o : Option ℕ). record { tick = tick; call = o }) two
 
 counted_two : (before middle after : ℕ) (tick call : Option ℕ) → CountedOnce before tick middle → CountedOnce middle call after → Counted before (record { tick = tick; call = call } ∷ []) after
@@ -94,14 +96,29 @@ exact_late before middle after tick call reply c first second one two told stays
 
 -- ---- the items
 
-given_on : (lane before middle after : ℕ) (s : State) (items : List Item) (t u : State) (i : Item) (left : List Item) (made more : List Outcome) (c : Choice) (o : Outcome)
-    → AreGivenSoFar lane before middle s items t (i ∷ left) made → Counted middle (c ∷ []) after → o ≡ (item_with c lane t i).outcome → u ≡ (item_with c lane t i).state → more ≡ made ++ o ∷ []
-    → AreGivenSoFar lane before after s items u left more
-given_on lane before middle after s items t u i left made more c o so_far counted outcome state pushed = record {
+-- what a keeper has come to by one item, under a choice, with the commits of that item
+pub record KeptBy (before after : KeptAt) (c : Choice) (asked : List Bool) : Type 0 where
+  pub counted : Counted before.faults (c ∷ []) after.faults
+  pub stored : after.stored ≡ before.stored ++ asked
+
+pub kept_by : (old new : KeeperSeen) (c : Choice) (asked : List Bool) → Counted old.health.faults (c ∷ []) new.health.faults → Asks old new asked → KeptBy (kept_at old) (kept_at new) c asked
+kept_by old new c asked counted asks = record { counted = counted; stored = asks.stored }
+
+given_on : (lane : ℕ) (before middle after : KeptAt) (s : State) (items : List Item) (t u : State) (i : Item) (left : List Item) (made more : List Outcome) (c : Choice) (o : Outcome)
+    → AreGivenSoFar lane before middle s items t (i ∷ left) made → KeptBy middle after c (asked_item c lane t i) → o ≡ (item_with c lane t i).outcome → u ≡ (item_with c lane t i).state
+    → more ≡ made ++ o ∷ [] → AreGivenSoFar lane before after s items u left more
+given_on lane before middle after s items t u i left made more c o so_far kept outcome state pushed = record {
   front = so_far.front ++ i ∷ [];
   choices = so_far.choices ++ c ∷ [];
   whole = so_far.whole ∙ sym (append_assoc so_far.front (i ∷ []) left);
-  counted = counted_on before so_far.choices (c ∷ []) middle after so_far.counted counted;
+  counted = counted_on before.faults so_far.choices (c ∷ []) middle.faults after.faults so_far.counted kept.counted;
+  stored = λ next later.
+      ap (λ bs. bs ++ asked_all lane u next later) kept.stored
+      ∙ append_assoc middle.stored (asked_item c lane t i) (asked_all lane u next later)
+      ∙ ap (λ (v : State). middle.stored ++ (asked_item c lane t i ++ asked_all lane v next later)) state
+      ∙ so_far.stored (i ∷ next) (c ∷ later)
+      ∙ ap (λ is. before.stored ++ asked_all lane s is (so_far.choices ++ c ∷ later)) (sym (append_assoc so_far.front (i ∷ []) next))
+      ∙ ap (λ cs. before.stored ++ asked_all lane s ((so_far.front ++ i ∷ []) ++ next) cs) (sym (append_assoc so_far.choices (c ∷ []) later));
   outcomes = λ next later.
       ap (λ os. os ++ outcomes_with lane u next later) pushed
       ∙ append_assoc made (o ∷ []) (outcomes_with lane u next later)
@@ -117,20 +134,25 @@ given_on lane before middle after s items t u i left made more c o so_far counte
       ∙ ap (λ cs. after_with lane s ((so_far.front ++ i ∷ []) ++ next) cs) (sym (append_assoc so_far.choices (c ∷ []) later));
 }
 
-pub given_next : (lane before middle after : ℕ) (s : State) (items : List Item) (t u : State) (left rest : List Item) (i : Item) (made more : List Outcome) (c : Choice) (o : Outcome)
-    → left ≡ i ∷ rest → AreGivenSoFar lane before middle s items t left made → Counted middle (c ∷ []) after → o ≡ (item_with c lane t i).outcome → u ≡ (item_with c lane t i).state
+pub given_next : (lane : ℕ) (before middle after : KeptAt) (s : State) (items : List Item) (t u : State) (left rest : List Item) (i : Item) (made more : List Outcome) (c : Choice) (o : Outcome)
+    → left ≡ i ∷ rest → AreGivenSoFar lane before middle s items t left made → KeptBy middle after c (asked_item c lane t i) → o ≡ (item_with c lane t i).outcome → u ≡ (item_with c lane t i).state
     → more ≡ made ++ o ∷ [] → AreGivenSoFar lane before after s items u rest more
-given_next lane before middle after s items t u left rest i made more c o is so_far counted outcome state pushed =
-    given_on lane before middle after s items t u i rest made more c o (subst (λ is. AreGivenSoFar lane before middle s items t is made) is so_far) counted outcome state pushed
+given_next lane before middle after s items t u left rest i made more c o is so_far kept outcome state pushed =
+    given_on lane before middle after s items t u i rest made more c o (subst (λ is. AreGivenSoFar lane before middle s items t is made) is so_far) kept outcome state pushed
 
 -- after the last item
-pub all_given : (lane before after : ℕ) (s : State) (items : List Item) (t : State) (left : List Item) (made : List Outcome) → left ≡ [] → AreGivenSoFar lane before after s items t left made
+pub all_given : (lane : ℕ) (before after : KeptAt) (s : State) (items : List Item) (t : State) (left : List Item) (made : List Outcome) → left ≡ [] → AreGivenSoFar lane before after s items t left made
     → AreGiven lane before after s items t made
 all_given lane before after s items t left made none so_far =
     let last : AreGivenSoFar lane before after s items t [] made = subst (λ is. AreGivenSoFar lane before after s items t is made) none so_far in
     record {
       choices = last.choices;
       counted = last.counted;
+      stored =
+          sym (append-nil after.stored)
+          ∙ last.stored [] []
+          ∙ ap (λ is. before.stored ++ asked_all lane s is (last.choices ++ [])) (sym last.whole)
+          ∙ ap (λ cs. before.stored ++ asked_all lane s items cs) (append-nil last.choices);
       outcomes =
           sym (append-nil made)
           ∙ last.outcomes [] []
@@ -242,7 +264,7 @@ tick_leaves true s lane to = (refl, refl)
 tick_leaves false s lane to = (refl, append-nil s.kept)
 
 kept_for_as : (s t : State) (call : Call) (k : KeptReply) → t.kept ≡ s.kept → IsKeptFor s call k → IsKeptFor t call k
-kept_for_as s t call k same is = record { held = ap (kept_at call.actor call.number) same ∙ is.held; same = is.same }
+kept_for_as s t call k same is = record { held = ap (reply_kept_at call.actor call.number) same ∙ is.held; same = is.same }
 
 -- what a command that comes again is given once its tick is put in place
 record IsAgain (t : State) (k : KeptReply) (g : Given) : Type 0 where
@@ -296,23 +318,23 @@ again_after_tick lane s at call k c t o told called later reached may is given =
 
 -- ---- a line that is no call
 
-no_call : (faults lane asked : ℕ) (s : State) (fault : BadCall) (o : Outcome) (ticked called : List Notice) → o ≡ (bad_given s fault).outcome → ticked ≡ [] → called ≡ []
-    → GivenBetween faults faults (λ c. asked ≡ commits_after_item c lane s (item.Bad fault) asked) (λ c. item_with c lane s (item.Bad fault)) s o ticked called
-no_call faults lane asked s fault o ticked called outcome none nothing = record {
+no_call : (keeper : KeeperSeen) (lane : ℕ) (s : State) (fault : BadCall) (o : Outcome) (ticked called : List Notice) → o ≡ (bad_given s fault).outcome → ticked ≡ [] → called ≡ []
+    → GivenBetween keeper keeper (λ c. asked_item c lane s (item.Bad fault)) (λ c. item_with c lane s (item.Bad fault)) s o ticked called
+no_call keeper lane s fault o ticked called outcome none nothing = record {
   choice = no_choice;
   counted = omega arith;
   exact = tt;
-  asked = refl;
+  asks = record { commits = refl; stored = sym (append-nil (stored_in keeper.account)) };
   is = record { its_outcome = outcome; its_state = refl; its_tick = none; its_call = nothing };
 }
 
-bad_between : (faults lane asked : ℕ) (s : State) (i : Item) (fault : BadCall) (o : Outcome) (ticked called : List Notice) → i ≡ item.Bad fault → o ≡ (bad_given s fault).outcome → ticked ≡ [] → called ≡ []
-    → GivenBetween faults faults (λ c. asked ≡ commits_after_item c lane s i asked) (λ c. item_with c lane s i) s o ticked called
-bad_between faults lane asked s i fault o ticked called bad outcome none nothing =
-    subst (λ (x : Item). GivenBetween faults faults (λ c. asked ≡ commits_after_item c lane s x asked) (λ c. item_with c lane s x) s o ticked called) (sym bad) (no_call faults lane asked s fault o ticked called outcome none nothing)
+bad_between : (keeper : KeeperSeen) (lane : ℕ) (s : State) (i : Item) (fault : BadCall) (o : Outcome) (ticked called : List Notice) → i ≡ item.Bad fault → o ≡ (bad_given s fault).outcome → ticked ≡ [] → called ≡ []
+    → GivenBetween keeper keeper (λ c. asked_item c lane s i) (λ c. item_with c lane s i) s o ticked called
+bad_between keeper lane s i fault o ticked called bad outcome none nothing =
+    subst (λ (x : Item). GivenBetween keeper keeper (λ c. asked_item c lane s x) (λ c. item_with c lane s x) s o ticked called) (sym bad) (no_call keeper lane s fault o ticked called outcome none nothing)
 
-pub bad_answered : {E : Type 0} (r : Result Answered E) (faults lane asked : ℕ) (s : State) (i : Item) (fault : BadCall) → i ≡ item.Bad fault → IfOk r (λ a. a.outcome ≡ (bad_given s fault).outcome)
+pub bad_answered : {E : Type 0} (r : Result Answered E) (keeper : KeeperSeen) (lane : ℕ) (s : State) (i : Item) (fault : BadCall) → i ≡ item.Bad fault → IfOk r (λ a. a.outcome ≡ (bad_given s fault).outcome)
     → IfOk r (λ a. a.ticked ≡ []) → IfOk r (λ a. a.called ≡ [])
-    → IfOk r (λ a. GivenBetween faults faults (λ c. asked ≡ commits_after_item c lane s i asked) (λ c. item_with c lane s i) s a.outcome a.ticked a.called)
-bad_answered (Ok a) faults lane asked s i fault bad outcome none nothing = bad_between faults lane asked s i fault a.outcome a.ticked a.called bad outcome none nothing
-bad_answered (Err e) faults lane asked s i fault bad outcome none nothing = tt
+    → IfOk r (λ a. GivenBetween keeper keeper (λ c. asked_item c lane s i) (λ c. item_with c lane s i) s a.outcome a.ticked a.called)
+bad_answered (Ok a) keeper lane s i fault bad outcome none nothing = bad_between keeper lane s i fault a.outcome a.ticked a.called bad outcome none nothing
+bad_answered (Err e) keeper lane s i fault bad outcome none nothing = tt

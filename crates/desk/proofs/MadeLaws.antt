@@ -1,5 +1,5 @@
 -- The items that are made of a number, one after another.
-use Rattle.std.proofs.Common.{◌≡◌, ◌∙◌, ap, arith, sym, subst, refl, ℕ, zero, suc, ◌+◌, ◌*◌, ◌≤◌, List, [], ◌∷◌, ◌++◌, append-nil, append_assoc, drop, length, map, Option, None, Some}
+use Rattle.std.proofs.Common.{◌≡◌, ◌∙◌, ap, arith, sym, subst, refl, ℕ, zero, suc, ◌+◌, ◌*◌, List, [], ◌∷◌, ◌++◌, append-nil, append_assoc, drop, length, map, Option, None, Some}
 use Rattle.std.proofs.lemmas.List.{length-map, map-append}
 use Rattle.asks.specs.declared.call.Call.{Call}
 use Rattle.asks.specs.declared.reply.Done.{Done as DoneType}
@@ -11,9 +11,9 @@ use Rattle.made_items.specs.Makers.{Making, GoesOn, calls_left, next_call, noted
 use Rattle.made_items.proofs.MakerLaws.{goes_on}
 use Rattle.made_items.specs.Numbers.{next_number}
 use Rattle.desk.specs.InPart.{AreGivenInPart, MayHaveBegun}
-use Rattle.desk.specs.Keeping.{Choice, Counted, item_with, AreGiven, AreGivenSoFar}
+use Rattle.desk.specs.Keeping.{AreGiven, AreGivenSoFar, Choice, KeptAt, KeptLater, asked_item, item_with}
 use Rattle.desk.specs.Made.{done_of, came_of, made_item, made_items, made_text, IsMade, IsMadeInPart}
-use Rattle.desk.proofs.Choices.{all_given, given_next}
+use Rattle.desk.proofs.Choices.{KeptBy, all_given, given_next}
 use Rattle.desk.proofs.InPart.{after_next, at_next, given_whole, none_so_far, stopped}
 
 -- ---- how many they are
@@ -30,24 +30,25 @@ many_made count number came =
     length-map (calls number count came) made_item ∙ all
 
 -- the items that were answered so far, and those that are left
-pub record MadeSoFar (before after : ℕ) (s : State) (number count : ℕ) (t : State) (left : Making) (made : List Outcome) : Type 0 where
+pub record MadeSoFar (before after : KeptAt) (s : State) (number count : ℕ) (t : State) (left : Making) (made : List Outcome) : Type 0 where
   pub items : List Item
   pub given : AreGivenSoFar 1 before after s items t [] made
   pub whole : (came : Came) → made_items number count (came_of made ++ came) ≡ items ++ map made_item (calls_left left came)
 
 -- more items to come
-widen : (lane before after : ℕ) (s : State) (items : List Item) (t : State) (made : List Outcome) (left : List Item) → AreGivenSoFar lane before after s items t [] made
+widen : (lane : ℕ) (before after : KeptAt) (s : State) (items : List Item) (t : State) (made : List Outcome) (left : List Item) → AreGivenSoFar lane before after s items t [] made
     → AreGivenSoFar lane before after s (items ++ left) t left made
 widen lane before after s items t made left so_far = record {
   front = so_far.front;
   choices = so_far.choices;
   whole = ap (λ is. is ++ left) (so_far.whole ∙ append-nil so_far.front);
   counted = so_far.counted;
+  stored = so_far.stored;
   outcomes = so_far.outcomes;
   state = so_far.state;
 }
 
-pub none_made : (before : ℕ) (s : State) (number count : ℕ) (left : Making) (made : List Outcome) → made ≡ [] → ((came : Came) → calls_left left came ≡ calls number count came)
+pub none_made : (before : KeptAt) (s : State) (number count : ℕ) (left : Making) (made : List Outcome) → made ≡ [] → ((came : Came) → calls_left left came ≡ calls number count came)
     → MadeSoFar before before s number count s left made
 none_made before s number count left made none begun = record {
   items = [];
@@ -67,20 +68,20 @@ whole_next number count items left next made o call whole on is came =
     ∙ sym (append_assoc items (made_item call ∷ []) (map made_item (calls_left next came)))
 
 -- one item more
-pub made_next : (before middle after : ℕ) (s : State) (number count : ℕ) (t u : State) (left next : Making) (made more : List Outcome) (call : Call) (c : Choice) (o : Outcome) (what : Option DoneType)
-    → MadeSoFar before middle s number count t left made → next_call left ≡ Some call → what ≡ done_of o.said → GoesOn left what next → Counted middle (c ∷ []) after
+pub made_next : (before middle after : KeptAt) (s : State) (number count : ℕ) (t u : State) (left next : Making) (made more : List Outcome) (call : Call) (c : Choice) (o : Outcome) (what : Option DoneType)
+    → MadeSoFar before middle s number count t left made → next_call left ≡ Some call → what ≡ done_of o.said → GoesOn left what next → KeptBy middle after c (asked_item c 1 t (made_item call))
     → o ≡ (item_with c 1 t (made_item call)).outcome → u ≡ (item_with c 1 t (made_item call)).state → more ≡ made ++ o ∷ [] → MadeSoFar before after s number count u next more
-made_next before middle after s number count t u left next made more call c o what so_far is came on counted outcome state pushed =
+made_next before middle after s number count t u left next made more call c o what so_far is came on kept outcome state pushed =
     let i = made_item call in
     let goes = subst (λ (w : Option DoneType). GoesOn left w next) came on in
     record {
       items = so_far.items ++ i ∷ [];
-      given = given_next 1 before middle after s (so_far.items ++ i ∷ []) t u (i ∷ []) [] i made more c o refl (widen 1 before middle s so_far.items t made (i ∷ []) so_far.given) counted outcome state pushed;
+      given = given_next 1 before middle after s (so_far.items ++ i ∷ []) t u (i ∷ []) [] i made more c o refl (widen 1 before middle s so_far.items t made (i ∷ []) so_far.given) kept outcome state pushed;
       whole = λ later. ap (λ os. made_items number count (came_of os ++ later)) pushed ∙ whole_next number count so_far.items left next made o call so_far.whole goes is later;
     }
 
 -- after the last item
-pub all_made : (before after : ℕ) (s : State) (number count : ℕ) (t : State) (left : Making) (made : List Outcome) → MadeSoFar before after s number count t left made → ((came : Came) → calls_left left came ≡ [])
+pub all_made : (before after : KeptAt) (s : State) (number count : ℕ) (t : State) (left : Making) (made : List Outcome) → MadeSoFar before after s number count t left made → ((came : Came) → calls_left left came ≡ [])
     → AreGiven 1 before after s (made_items number count (came_of made)) t made
 all_made before after s number count t left made so_far none =
     let same : made_items number count (came_of made) ≡ so_far.items = ap (λ cs. made_items number count cs) (sym (append-nil (came_of made))) ∙ so_far.whole [] ∙ ap (λ cs. so_far.items ++ map made_item cs) (none []) ∙ append-nil so_far.items in
@@ -95,8 +96,8 @@ next_left number count items left made call whole is =
     whole (None ∷ []) ∙ ap (λ cs. items ++ map made_item cs) ((goes_on left (noted left None) None refl).calls call is [])
 
 -- before the next item, or after the tick that comes first
-pub made_at : (before middle after : ℕ) (s : State) (number count : ℕ) (t u : State) (left : Making) (made : List Outcome) (call : Call) → MadeSoFar before middle s number count t left made
-    → next_call left ≡ Some call → middle ≤ after → MayHaveBegun 1 (made_item call) t u → IsMadeInPart before after s number count u
+pub made_at : (before middle after : KeptAt) (s : State) (number count : ℕ) (t u : State) (left : Making) (made : List Outcome) (call : Call) → MadeSoFar before middle s number count t left made
+    → next_call left ≡ Some call → KeptLater middle after → MayHaveBegun 1 (made_item call) t u → IsMadeInPart before after s number count u
 made_at before middle after s number count t u left made call so_far is over begun =
     let i = made_item call in
     let rest = map made_item (calls_left (noted left None) []) in
@@ -107,19 +108,19 @@ made_at before middle after s number count t u left made call so_far is over beg
     }
 
 -- the next item was answered, and there was no memory to keep its outcome
-pub made_after : (before middle after : ℕ) (s : State) (number count : ℕ) (t u : State) (left : Making) (made : List Outcome) (call : Call) (c : Choice) → MadeSoFar before middle s number count t left made
-    → next_call left ≡ Some call → Counted middle (c ∷ []) after → u ≡ (item_with c 1 t (made_item call)).state → IsMadeInPart before after s number count u
-made_after before middle after s number count t u left made call c so_far is counted state =
+pub made_after : (before middle after : KeptAt) (s : State) (number count : ℕ) (t u : State) (left : Making) (made : List Outcome) (call : Call) (c : Choice) → MadeSoFar before middle s number count t left made
+    → next_call left ≡ Some call → KeptBy middle after c (asked_item c 1 t (made_item call)) → u ≡ (item_with c 1 t (made_item call)).state → IsMadeInPart before after s number count u
+made_after before middle after s number count t u left made call c so_far is kept state =
     let i = made_item call in
     let rest = map made_item (calls_left (noted left None) []) in
     record {
       came = came_of made ++ None ∷ [];
       given = subst (λ is. AreGivenInPart 1 before after s is u) (sym (next_left number count so_far.items left made call so_far.whole is))
-          (after_next 1 before middle after s (so_far.items ++ i ∷ rest) t u (i ∷ rest) rest i made c refl (widen 1 before middle s so_far.items t made (i ∷ rest) so_far.given) counted state);
+          (after_next 1 before middle after s (so_far.items ++ i ∷ rest) t u (i ∷ rest) rest i made c refl (widen 1 before middle s so_far.items t made (i ∷ rest) so_far.given) kept state);
     }
 
 -- nothing more was done
-pub made_so_far : (before after : ℕ) (s : State) (number count : ℕ) (t : State) (left : Making) (made : List Outcome) → MadeSoFar before after s number count t left made → IsMadeInPart before after s number count t
+pub made_so_far : (before after : KeptAt) (s : State) (number count : ℕ) (t : State) (left : Making) (made : List Outcome) → MadeSoFar before after s number count t left made → IsMadeInPart before after s number count t
 made_so_far before after s number count t left made so_far =
     let later = map made_item (calls_left left []) in
     record {
@@ -129,9 +130,9 @@ made_so_far before after s number count t left made so_far =
     }
 
 -- all were answered
-pub made_whole : (before after : ℕ) (s : State) (number count : ℕ) (t : State) (made : List Outcome) → AreGiven 1 before after s (made_items number count (came_of made)) t made → IsMadeInPart before after s number count t
+pub made_whole : (before after : KeptAt) (s : State) (number count : ℕ) (t : State) (made : List Outcome) → AreGiven 1 before after s (made_items number count (came_of made)) t made → IsMadeInPart before after s number count t
 made_whole before after s number count t made given = record { came = came_of made; given = given_whole 1 before after s (made_items number count (came_of made)) (made_items number count (came_of made)) t made refl given }
 
-pub is_made : (before after : ℕ) (s : State) (number count : ℕ) (t : State) (made : List Outcome) (text : List ℕ) → AreGiven 1 before after s (made_items number count (came_of made)) t made → text ≡ made_text number count made t
+pub is_made : (before after : KeptAt) (s : State) (number count : ℕ) (t : State) (made : List Outcome) (text : List ℕ) → AreGiven 1 before after s (made_items number count (came_of made)) t made → text ≡ made_text number count made t
     → IsMade before after s number count t text
 is_made before after s number count t made text given says = record { outcomes = made; given = given; says = says }

@@ -1,5 +1,5 @@
 -- One more turn of a lane is merged into what has come before it.
-use Rattle.std.proofs.Common.{◌≡◌, ℕ, zero, suc, ◌<◌, ◌≤◌, ◌+◌, ◌==◌, Bool, true, false, List, [], ◌∷◌, ◌++◌, length, map, take, get_or, set, length-append, append-nil, Option, None, Some, refl, ap, sym, ◌∙◌, subst, arith, if◌then◌else◌, inl, inr}
+use Rattle.std.proofs.Common.{◌≡◌, ℕ, zero, suc, ◌<◌, ◌≤◌, ◌+◌, ◌==◌, Bool, true, false, List, [], ◌∷◌, ◌++◌, length, map, take, get_or, set, length-append, append-nil, append_assoc, Option, None, Some, refl, ap, sym, ◌∙◌, subst, arith, if◌then◌else◌, inl, inr}
 use Rattle.std.specs.Bool.{OnTrue}
 use Rattle.std.specs.List.{AllByRecursion, concat}
 use Rattle.std.specs.Prelude.{slice_get, MatchBool}
@@ -11,10 +11,11 @@ use Rattle.desk_state.specs.Repeats.{IsAskable}
 use Rattle.desk_state.specs.State.{State}
 use Rattle.desk_state.specs.declared.lanes.Item.{Item}
 use Rattle.desk_state.specs.declared.lanes.Outcome.{Outcome}
+use Rattle.desk.proofs.AskedLaws.{keeper_later, later_refl}
 use Rattle.desk.proofs.Choices.{counted_on, rise_lower}
 use Rattle.desk.proofs.SeenLaws.{desk_on, desk_stays}
-use Rattle.desk.specs.Keeping.{Counted, Rise, numbers_of}
-use Rattle.desk.specs.Merge.{Turn, Event, turn_given, event_of, after_turns, events_of, choices_of, of_lane, LaneHas, IsAmong, AreMerged, AreMergedInPart, TakesTurn, HasBegun, IsFresh}
+use Rattle.desk.specs.Keeping.{Counted, KeptAt, KeptLater, asked_item, kept_at, numbers_of}
+use Rattle.desk.specs.Merge.{Turn, Event, turn_given, event_of, after_turns, asked_in, events_of, choices_of, of_lane, LaneHas, IsAmong, AreMerged, AreMergedInPart, TakesTurn, HasBegun, IsFresh}
 use Rattle.desk.specs.Race.{lanes_of, IsRaceInPart}
 use Rattle.desk.specs.Round.{Began, IsRound, AreTaken, items_in}
 use Rattle.desk.specs.Run.{LaneShown, lane_with}
@@ -28,6 +29,13 @@ use Rattle.keeper.specs.Seen.{KeeperSeen}
 after_more : (s : State) (turns : List Turn) (turn : Turn) → after_turns s (turns ++ turn ∷ []) ≡ (turn_given (after_turns s turns) turn).state
 after_more s [] turn = refl
 after_more s (t ∷ turns) turn = after_more (turn_given s t).state turns turn
+
+asked_more : (s : State) (turns : List Turn) (turn : Turn) → asked_in s (turns ++ turn ∷ []) ≡ asked_in s turns ++ asked_item turn.choice turn.lane (after_turns s turns) turn.item
+asked_more s [] turn = append-nil (asked_item turn.choice turn.lane s turn.item)
+asked_more s (t ∷ turns) turn =
+    let own = asked_item t.choice t.lane s t.item in
+    let mid : State = (turn_given s t).state in
+    ap (λ bs. own ++ bs) (asked_more mid turns turn) ∙ sym (append_assoc own (asked_in mid turns) (asked_item turn.choice turn.lane (after_turns mid turns) turn.item))
 
 events_more : (s : State) (turns : List Turn) (turn : Turn) → events_of s (turns ++ turn ∷ []) ≡ events_of s turns ++ event_of (after_turns s turns) turn ∷ []
 events_more s [] turn = refl
@@ -117,8 +125,8 @@ module _ (events : List Event) (lanes : List LaneShown) (place : ℕ) (lane : La
 choices_more : (turns : List Turn) (turn : Turn) → choices_of (turns ++ turn ∷ []) ≡ choices_of turns ++ turn.choice ∷ []
 choices_more turns turn = map-append (λ (t : Turn). t.choice) turns (turn ∷ [])
 
-pub merged_more : (before : ℕ) (s : State) (lanes : List LaneShown) (old new : DeskSeen) (place : ℕ) (lane grown : LaneShown) → AreMerged before old.keeper.health.faults s lanes old.state
-    → slice_get lanes place ≡ Some lane → TakesTurn (place + 1) lane grown old new → AreMerged before new.keeper.health.faults s (set lanes place grown) new.state
+pub merged_more : (before : KeptAt) (s : State) (lanes : List LaneShown) (old new : DeskSeen) (place : ℕ) (lane grown : LaneShown) → AreMerged before (kept_at old.keeper) s lanes old.state
+    → slice_get lanes place ≡ Some lane → TakesTurn (place + 1) lane grown old new → AreMerged before (kept_at new.keeper) s (set lanes place grown) new.state
 merged_more before s lanes old new place lane grown merged found takes =
     let t = takes.turn in
     let turn : Turn = record { lane = place + 1; item = takes.item; choice = t.choice } in
@@ -133,7 +141,13 @@ merged_more before s lanes old new place lane grown merged found takes =
     let long : length lanes ≡ length (set lanes place grown) = sym (set_long lanes place grown) in
     record {
       turns = merged.turns ++ turn ∷ [];
-      counted = subst (λ cs. Counted before cs after) (sym (choices_more merged.turns turn)) (counted_on before (choices_of merged.turns) (t.choice ∷ []) middle after merged.counted t.counted);
+      counted = subst (λ cs. Counted before.faults cs after) (sym (choices_more merged.turns turn)) (counted_on before.faults (choices_of merged.turns) (t.choice ∷ []) middle after merged.counted t.counted);
+      stored =
+          t.asks.stored
+          ∙ ap (λ bs. bs ++ asked_item t.choice (place + 1) old.state takes.item) merged.stored
+          ∙ append_assoc before.stored (asked_in s merged.turns) (asked_item t.choice (place + 1) old.state takes.item)
+          ∙ ap (λ (u : State). before.stored ++ (asked_in s merged.turns ++ asked_item t.choice (place + 1) u takes.item)) merged.state
+          ∙ ap (λ bs. before.stored ++ bs) (sym (asked_more s merged.turns turn));
       state = t.state_is ∙ (ap (λ (u : State). (turn_given u turn).state) merged.state ∙ sym (after_more s merged.turns turn));
       among = subst (λ (n : ℕ). AllByRecursion (IsAmong n) (merged.turns ++ turn ∷ [])) long (among_more (length lanes) merged.turns turn merged.among (omega arith, omega (arith, within)));
       askable = askable_more merged.turns turn merged.askable takes.askable;
@@ -151,41 +165,29 @@ fresh_at [] n lane all at = absurd (cc)
 fresh_at (l ∷ lanes) zero lane all at = subst IsFresh (same_some (Some l) l lane refl at) all.0
 fresh_at (l ∷ lanes) (suc n) lane all at = fresh_at lanes n lane all.1 at
 
-pub merged_none : (before : ℕ) (s : State) (lanes : List LaneShown) → AllByRecursion IsFresh lanes → AreMerged before before s lanes s
+pub merged_none : (before : KeptAt) (s : State) (lanes : List LaneShown) → AllByRecursion IsFresh lanes → AreMerged before before s lanes s
 merged_none before s lanes fresh = record {
   turns = [];
   counted = omega arith;
+  stored = sym (append-nil before.stored);
   state = refl;
   among = tt;
   askable = tt;
   each = λ n lane at. none_has (n + 1) lane (fresh_at lanes n lane fresh at);
 }
 
-rise_higher : (low : ℕ) (ns : List ℕ) (high more : ℕ) → high ≤ more → Rise low ns high → Rise low ns more
-rise_higher low [] high more over rise = omega (arith, over, rise)
-rise_higher low (n ∷ ns) high more over rise = (rise.0, rise_higher n ns high more over rise.1)
-
--- what is merged, where the keeper has counted more
-merged_higher : (before middle after : ℕ) (s : State) (lanes : List LaneShown) (t : State) → middle ≤ after → AreMerged before middle s lanes t → AreMerged before after s lanes t
-merged_higher before middle after s lanes t over merged = record {
-  turns = merged.turns;
-  counted = rise_higher before (concat (map numbers_of (choices_of merged.turns))) middle after over merged.counted;
-  state = merged.state;
-  among = merged.among;
-  askable = merged.askable;
-  each = merged.each;
-}
-
-pub merged_ends : (before middle after : ℕ) (s : State) (lanes : List LaneShown) (t u : State) (place : ℕ) (lane : LaneShown) → AreMerged before middle s lanes t → middle ≤ after → slice_get lanes place ≡ Some lane
+pub merged_ends : (before middle after : KeptAt) (s : State) (lanes : List LaneShown) (t u : State) (place : ℕ) (lane : LaneShown) → AreMerged before middle s lanes t → KeptLater middle after → slice_get lanes place ≡ Some lane
     → HasBegun (place + 1) lane t u → AreMergedInPart before after s lanes u
 merged_ends before middle after s lanes t u place lane merged over found begun = record {
   mid = t;
-  merged = merged_higher before middle after s lanes t over merged;
+  kept = middle;
+  merged = merged;
+  later = over;
   left = inr (record { place = place; lane = lane; found = found; begun = begun });
 }
 
-pub merged_whole : (before after : ℕ) (s : State) (lanes : List LaneShown) (t : State) → AreMerged before after s lanes t → AreMergedInPart before after s lanes t
-merged_whole before after s lanes t merged = record { mid = t; merged = merged; left = inl refl }
+pub merged_whole : (before after : KeptAt) (s : State) (lanes : List LaneShown) (t : State) → AreMerged before after s lanes t → AreMergedInPart before after s lanes t
+merged_whole before after s lanes t merged = record { mid = t; kept = after; merged = merged; later = later_refl after; left = inl refl }
 
 -- ---- the lock
 
@@ -193,7 +195,7 @@ pub round_begins : (began : Began) (desk : DeskSeen) (lanes : List LaneShown) �
 round_begins began desk lanes same items fresh = record {
   on = subst (λ (d : DeskSeen). DeskGoesOn d desk) (sym same) (desk_stays desk);
   items = sym items;
-  taken = subst (λ (d : DeskSeen). AreMerged d.keeper.health.faults desk.keeper.health.faults d.state lanes desk.state) (sym same) (merged_none desk.keeper.health.faults desk.state lanes fresh);
+  taken = subst (λ (d : DeskSeen). AreMerged (kept_at d.keeper) (kept_at desk.keeper) d.state lanes desk.state) (sym same) (merged_none (kept_at desk.keeper) desk.state lanes fresh);
 }
 
 items_stay : (lanes : List LaneShown) (place : ℕ) (lane grown : LaneShown) → slice_get lanes place ≡ Some lane → grown.items ≡ lane.items → map items_in (set lanes place grown) ≡ map items_in lanes
@@ -207,7 +209,7 @@ pub round_turns : (began : Began) (old new : DeskSeen) (lanes : List LaneShown) 
 round_turns began old new lanes place lane grown round found takes goes = record {
   on = desk_on began.desk old new round.on goes;
   items = items_stay lanes place lane grown found (ap (λ (l : LaneShown). l.items) takes.grows) ∙ round.items;
-  taken = merged_more began.desk.keeper.health.faults began.desk.state lanes old new place lane grown round.taken found takes;
+  taken = merged_more (kept_at began.desk.keeper) began.desk.state lanes old new place lane grown round.taken found takes;
 }
 
 -- where memory ran out at one
@@ -216,7 +218,7 @@ pub round_ends : (began : Began) (old new : DeskSeen) (lanes : List LaneShown) (
 round_ends began old new lanes place lane round found begun goes = record {
   on = desk_on began.desk old new round.on goes;
   items = round.items;
-  taken = merged_ends began.desk.keeper.health.faults old.keeper.health.faults new.keeper.health.faults began.desk.state lanes old.state new.state place lane round.taken goes.keeper.health.later found begun;
+  taken = merged_ends (kept_at began.desk.keeper) (kept_at old.keeper) (kept_at new.keeper) began.desk.state lanes old.state new.state place lane round.taken (keeper_later old.keeper new.keeper goes.keeper) found begun;
 }
 
 module _ {K B : Type 0} (seen : K → KeeperSeen) (heard : B → BellSeen) (began : Began) (d d' : Desk K B) (lanes : List LaneShown) (place : ℕ) (lane grown : LaneShown) (ended : Bool) (open_yet : ended ≡ false) (round : IsRound began (desk_seen seen heard d) lanes ended)
@@ -247,29 +249,36 @@ module _ {K B : Type 0} (seen : K → KeeperSeen) (heard : B → BellSeen) (bega
 
 -- what was taken is merged, whether memory ran out or not
 pub taken_part : (began : Began) (desk : DeskSeen) (lanes : List LaneShown) (ended : Bool) → AreTaken began desk lanes ended
-    → AreMergedInPart began.desk.keeper.health.faults desk.keeper.health.faults began.desk.state lanes desk.state
+    → AreMergedInPart (kept_at began.desk.keeper) (kept_at desk.keeper) began.desk.state lanes desk.state
 taken_part began desk lanes true taken = taken
-taken_part began desk lanes false taken = merged_whole began.desk.keeper.health.faults desk.keeper.health.faults began.desk.state lanes desk.state taken
+taken_part began desk lanes false taken = merged_whole (kept_at began.desk.keeper) (kept_at desk.keeper) began.desk.state lanes desk.state taken
 
 -- where memory never ran out it is merged whole
 pub taken_whole : (began : Began) (desk : DeskSeen) (lanes : List LaneShown) (ended whole : Bool) → OnTrue whole (ended ≡ false) → AreTaken began desk lanes ended
-    → OnTrue whole (AreMerged began.desk.keeper.health.faults desk.keeper.health.faults began.desk.state lanes desk.state)
+    → OnTrue whole (AreMerged (kept_at began.desk.keeper) (kept_at desk.keeper) began.desk.state lanes desk.state)
 taken_whole began desk lanes ended false never taken = never
 taken_whole began desk lanes ended true never taken = subst (λ (b : Bool). AreTaken began desk lanes b) never taken
 
 -- what is merged, where the keeper's faults are counted from before
-pub merged_lower : (less low high : ℕ) (s t : State) (lanes : List LaneShown) → less ≤ low → AreMerged low high s lanes t → AreMerged less high s lanes t
+pub merged_lower : (less : ℕ) (low high : KeptAt) (s t : State) (lanes : List LaneShown) → less ≤ low.faults → AreMerged low high s lanes t → AreMerged (record low { faults = less }) high s lanes t
 merged_lower less low high s t lanes under merged = record {
   turns = merged.turns;
-  counted = rise_lower less low (concat (map numbers_of (choices_of merged.turns))) high under merged.counted;
+  counted = rise_lower less low.faults (concat (map numbers_of (choices_of merged.turns))) high.faults under merged.counted;
+  stored = merged.stored;
   state = merged.state;
   among = merged.among;
   askable = merged.askable;
   each = merged.each;
 }
 
-pub part_lower : (less low high : ℕ) (s t : State) (lanes : List LaneShown) → less ≤ low → AreMergedInPart low high s lanes t → AreMergedInPart less high s lanes t
-part_lower less low high s t lanes under part = record { mid = part.mid; merged = merged_lower less low high s part.mid lanes under part.merged; left = part.left }
+pub part_lower : (less : ℕ) (low high : KeptAt) (s t : State) (lanes : List LaneShown) → less ≤ low.faults → AreMergedInPart low high s lanes t → AreMergedInPart (record low { faults = less }) high s lanes t
+part_lower less low high s t lanes under part = record {
+  mid = part.mid;
+  kept = part.kept;
+  merged = merged_lower less low part.kept s part.mid lanes under part.merged;
+  later = part.later;
+  left = part.left;
+}
 
 -- the lanes of scripts, of which nothing has come yet
 pub lanes_fresh : (scripts : List (List ℕ)) → AllByRecursion IsFresh (lanes_of scripts)
@@ -280,5 +289,5 @@ pub made_fresh : (lanes : List LaneShown) (scripts : List (List ℕ)) → lanes 
 made_fresh lanes scripts is = subst (AllByRecursion IsFresh) (sym is) (lanes_fresh scripts)
 
 -- nothing was done of a race
-pub race_none : (before : ℕ) (s : State) (scripts : List (List ℕ)) → IsRaceInPart before before s scripts s
+pub race_none : (before : KeptAt) (s : State) (scripts : List (List ℕ)) → IsRaceInPart before before s scripts s
 race_none before s scripts = record { lanes = lanes_of scripts; items = refl; part = merged_whole before before s (lanes_of scripts) s (merged_none before s (lanes_of scripts) (lanes_fresh scripts)) }

@@ -18,11 +18,12 @@ use Rattle.keeper.specs.declared.keeping.KeepFault.TheVariants.{Failed}
 use Rattle.board.specs.Below.{AreKept, row_in, IsChecked, IsDesk, version_if, version_of, Checked, Record, AreOfDesk, state_in, judged_changes, opened_changes, upgraded_changes}
 use Rattle.desk_state.specs.State.{State}
 use Rattle.board.proofs.Below.{reopened_tables, rise_as}
+use Rattle.desk.proofs.AskedLaws.{stored_on}
 use Rattle.desk.proofs.SavedLaws.{saves_on}
 use Rattle.desk.proofs.Steps.{same_kept, still_keeps}
 use Rattle.desk.specs.Keeping.{KeepsState}
-use Rattle.desk.specs.Saved.{SavesBetween}
-use Rattle.desk.specs.Opening.{AreLoaded, AreAsked, FailsToOpen, IsEntered, IsLoad, IsOfKeeper, IsOfRows, IsOpened, MayHaveAsked, NotEntered, NotRead, NotSaved, OpensOver, board_of, commits_for, commits_of, commits_where, commits_to_open, opening_changes}
+use Rattle.desk.specs.Saved.{Saves, SavesBetween, stored_in}
+use Rattle.desk.specs.Opening.{AreLoaded, AreAsked, FailsToOpen, IsEntered, IsLoad, IsOfKeeper, IsOfRows, IsOpened, MayHaveAsked, NotEntered, NotRead, NotSaved, OpensOver, board_of, commits_for, commits_of, commits_where, commits_to_open, opening_changes, stored_at_opening}
 use Rattle.desk.specs.declared.opening.OpenWhy.{OpenWhy}
 use Rattle.desk.specs.declared.opening.OpenWhy.TheVariants.{KeeperFault, BadRow, BadPair, OutOfMemory}
 use Rattle.desk_state.specs.Effects.{nothing}
@@ -53,8 +54,8 @@ pub opened_tables : (told : Option Rows) (tables : TableRows) (b : Shown) → Is
 opened_tables told tables b opened = ap (λ (x : Shown). x.state.tables) opened.shows ∙ reopened_tables tables opened.records
 
 -- an account that grew says the same of its load
-pub entered_on : (old mid new : List AccountEntry) (tables : TableRows) (opening s t : State) → IsEntered old mid tables opening s → SavesBetween mid new s t → IsEntered old new tables opening t
-entered_on old mid new tables opening s t entered more =
+unfoldable pub entered_on : (old mid new : List AccountEntry) (tables : TableRows) (o opening s t : State) → o ≡ opening → IsEntered old mid tables opening s → SavesBetween mid new s t → IsEntered old new tables o t
+entered_on old mid new tables o opening s t same entered more =
     let opened = commits_of (opening_changes tables entered.records entered.first) in
     record {
       rows = entered.rows;
@@ -67,8 +68,8 @@ entered_on old mid new tables opening s t entered more =
           ∙ append_assoc old (Load (Some entered.rows) ∷ (opened ++ entered.later)) more.asked
           ∙ ap (λ es. old ++ Load (Some entered.rows) ∷ es) (append_assoc opened entered.later more.asked);
       read = entered.read;
-      opens = entered.opens;
-      saves = saves_on opening entered.later more.asked s t entered.saves more.saves;
+      opens = same ∙ entered.opens;
+      saves = subst (λ (u : State). Saves u (entered.later ++ more.asked) t) (sym same) (saves_on opening entered.later more.asked s t entered.saves more.saves);
     }
 
 load_entered : (old mid new : List AccountEntry) (tables : TableRows) (records : List Record) (first : Bool) (board : Shown) → IsLoad old mid records first
@@ -95,9 +96,20 @@ pub opens_over : {T E : Type 0} (board : T → Shown) (keeper : T → KeeperSeen
     → IsLoad old.account mid records first → IfOk r (λ d. board d ≡ board_of tables records false)
     → IfOk r (λ d. (keeper d).account ≡ mid ++ commits_of (opening_changes tables records first))
     → IfOk r (λ d. KeepsState (kept_rows (keeper d)) (board d).state) → IfOk r (λ d. OpensOver old (keeper d) tables (board d))
+unfolding load_entered
 opens_over board keeper (Ok d) old mid tables records first load shows grew keeps =
-    record { entered = load_entered old.account mid (keeper d).account tables records first (board d) load grew shows; kept = keeps }
+    record { entered = load_entered old.account mid (keeper d).account tables records first (board d) load grew shows; none = refl; kept = keeps }
 opens_over board keeper (Err e) old mid tables records first load shows grew keeps = tt
+
+-- the commits so far are those of before, and the one of opening
+pub opened_stored : (old new : KeeperSeen) (tables : TableRows) (board : Shown) → (over : OpensOver old new tables board)
+    → stored_in new.account ≡ stored_in old.account ++ stored_at_opening tables over.entered.records over.entered.first
+opened_stored old new tables board over =
+    let commits = commits_of (opening_changes tables over.entered.records over.entered.first) in
+    ap stored_in over.entered.account
+    ∙ stored_on old.account (Load (Some over.entered.rows) ∷ (commits ++ over.entered.later))
+    ∙ ap (λ es. stored_in old.account ++ stored_in (commits ++ es)) over.none
+    ∙ ap (λ es. stored_in old.account ++ stored_in es) (append-nil commits)
 
 -- ---- what the account says where no desk is opened
 

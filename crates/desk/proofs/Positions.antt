@@ -25,7 +25,7 @@ use Rattle.desk.proofs.Growing.{Grows, Did, IsMade, IsWithin, did, grows_on, gro
 use Rattle.desk.proofs.Lines.{line_at, at_line, before_in, before_rises, get_map, map_get, take_get, some_is}
 use Rattle.desk.proofs.Staged.{Stage, stage, turns_grow, Origin, OfTick, OfCall, origin}
 use Rattle.desk.proofs.Choices.{rise_within}
-use Rattle.desk.specs.Keeping.{Given, numbers_of}
+use Rattle.desk.specs.Keeping.{Given, KeptAt, numbers_of}
 use Rattle.desk.specs.Merge.{Turn, Event, turn_given, event_of, after_turns, events_of, choices_of, of_lane, LaneHas, AreMerged, is_done}
 use Rattle.desk.specs.Positions.{prefix, IsUnkept, IsUnkeptWithin, IsAnswered, IsRefusedBy, IsSaidIn, Accepts, IsEntryOf, ComesAt, IsLine, Owns, AreInHistory, AreOneHistory}
 use Rattle.desk.specs.Run.{LaneShown}
@@ -76,8 +76,14 @@ tick_entry : (m to : ℕ) (lane : ℕ) (i : Item) (says : Said) → IsEntryOf (e
 tick_entry m to lane (item.Bad fault) says is = absurd is
 tick_entry m to lane (item.Call at call) says is = absurd (let same : entry m (what.Tick to) ≡ entry lane (what.Asked (without_key call) is.0) = is.2 in tick_call lane m to (without_key call) is.0 (sym same))
 
-module _ (low high : ℕ) (opening s t : State) (lanes : List LaneShown) (merged : AreMerged low high s lanes t) (board : IsBoard opening s) (askable : AllByRecursion (λ (turn : Turn). IsAskable turn.item) merged.turns)
+module _ (first last : KeptAt) (opening s t : State) (lanes : List LaneShown) (merged : AreMerged first last s lanes t) (board : IsBoard opening s) (askable : AllByRecursion (λ (turn : Turn). IsAskable turn.item) merged.turns)
     (entries : List Entry) (grown : t.entries ≡ s.entries ++ entries) where
+  abbrev low : ℕ
+  low = first.faults
+
+  abbrev high : ℕ
+  high = last.faults
+
   abbrev turns : List Turn
   turns = merged.turns
 
@@ -388,21 +394,22 @@ module _ (low high : ℕ) (opening s t : State) (lanes : List LaneShown) (merged
   }
 
 -- Lanes that are merged, all of whose items have their outcomes, are in one history by their positions
-pub one_history : (low high : ℕ) (opening s t : State) (lanes : List LaneShown) → (merged : AreMerged low high s lanes t) → IsBoard opening s → list_all is_done lanes ≡ true → AreOneHistory low high s lanes t
-one_history low high opening s t lanes merged board all =
-    let g : Grows s (after_turns s merged.turns) = turns_grow low s merged.turns high merged.counted in
+pub one_history : (first last : KeptAt) (opening s t : State) (lanes : List LaneShown) → (merged : AreMerged first last s lanes t) → IsBoard opening s → list_all is_done lanes ≡ true
+    → AreOneHistory first.faults last.faults s lanes t
+one_history first last opening s t lanes merged board all =
+    let g : Grows s (after_turns s merged.turns) = turns_grow first.faults s merged.turns last.faults merged.counted in
     let grown : t.entries ≡ s.entries ++ g.entries = ap (λ (u : State). u.entries) merged.state ∙ g.grown in
     record {
       entries = g.entries;
       grown = grown;
       legal = subst (λ (u : State). Legal s g.entries u) (sym merged.state) g.legal;
-      merged = in_history low high opening s t lanes merged board merged.askable g.entries grown all;
+      merged = in_history first last opening s t lanes merged board merged.askable g.entries grown all;
     }
 
-pub whole_history : (whole : Bool) (low high : ℕ) (opening s t : State) (lanes : List LaneShown) → IsBoard opening s → OnTrue whole (AreMerged low high s lanes t) → OnTrue whole (list_all is_done lanes ≡ true)
-    → OnTrue whole (AreOneHistory low high s lanes t)
-whole_history true low high opening s t lanes board merged all = one_history low high opening s t lanes merged board all
-whole_history false low high opening s t lanes board merged all = tt
+pub whole_history : (whole : Bool) (first last : KeptAt) (opening s t : State) (lanes : List LaneShown) → IsBoard opening s → OnTrue whole (AreMerged first last s lanes t) → OnTrue whole (list_all is_done lanes ≡ true)
+    → OnTrue whole (AreOneHistory first.faults last.faults s lanes t)
+whole_history true first last opening s t lanes board merged all = one_history first last opening s t lanes merged board all
+whole_history false first last opening s t lanes board merged all = tt
 
 -- the same where the keeper's faults are counted from before
 pub history_lower : (less low high : ℕ) (s t : State) (lanes : List LaneShown) → less ≤ low → AreOneHistory low high s lanes t → AreOneHistory less high s lanes t

@@ -16,10 +16,12 @@ use Rattle.desk_io.specs.Rows.{Rows, changed_by}
 use Rattle.desk_io.specs.declared.rows.Change.{Change}
 use Rattle.keeper.specs.Kept.{AreSame, Leads}
 use Rattle.board.specs.Below.{AreKept}
+use Rattle.desk_state.specs.Legal.{IsHistory}
 use Rattle.desk_state.specs.State.{State}
 use Rattle.desk_state.specs.Step.{Stepped, answer_call}
 use Rattle.desk_state.proofs.Boards.{call_replies}
-use Rattle.desk.specs.Keeping.{adds, asked_if, kept_or, unkept, unkept_if, KeepsState}
+use Rattle.desk.specs.Keeping.{Asks, adds, asked_if, kept_or, unkept, unkept_if, KeepsState}
+use Rattle.keeper.specs.Seen.{KeeperSeen}
 use Rattle.desk.specs.Settled.{stepped_by, IsSettled}
 use Rattle.desk.specs.declared.settling.Settled.{Settled}
 
@@ -61,11 +63,10 @@ adds_as s p t is = by (is_some p.event) refl
     by true e = ap (λ (u : State). nat_lt (length s.entries) (length u.entries)) (sym is.state) ∙ adds_one p s e ∙ sym e
     by false e = ap (λ (u : State). nat_lt (length s.entries) (length u.entries)) (sym is.state ∙ stays p s e) ∙ le-ltb (length s.entries) (length s.entries) (omega arith) ∙ sym e
 
--- what a step asks of a keeper, whatever comes of it
-pub asked_as : {E : Type 0} (result : Result Settled E) (before after : ℕ) (s : State) (p : Prepared) (t : Stepped) → IsStepped s p t → after ≡ asked_if (is_some p.event) before
-    → IfOk result (λ r. after ≡ asked_if (adds s t) before)
-asked_as (Ok r) before after s p t is asked = asked ∙ ap (λ b. asked_if b before) (sym (adds_as s p t is))
-asked_as (Err e) before after s p t is asked = tt
+-- what a step asks of a keeper
+pub asks_as : {E : Type 0} (result : Result Settled E) (old new : KeeperSeen) (s : State) (p : Prepared) (t : Stepped) → IsStepped s p t → IfOk result (λ r. Asks old new (asked_if (is_some p.event) r.fault))
+    → IfOk result (λ r. Asks old new (asked_if (adds s t) r.fault))
+asks_as result old new s p t is asks = subst (λ (b : Bool). IfOk result (λ r. Asks old new (asked_if b r.fault))) (sym (adds_as s p t is)) asks
 
 -- a step that changes something and isn't kept is refused
 pub is_unkept : (r : Settled) (s : State) (p : Prepared) (faults : ℕ) → is_some p.event ≡ true → r.reply ≡ Some (Refused (Unkept faults)) → r.notices ≡ [] → r.fault ≡ Some faults
@@ -131,3 +132,15 @@ settled_is result after b opening s room listed p t is stepped settled =
 -- the same rows, of the state that a board shows
 pub keeps_as : (b : Shown) (opening s : State) (room : Option Prepared) (listed : Bool) (p : Prepared) → b ≡ shown opening s room listed → KeepsRows s p → KeepsRows b.state p
 keeps_as b opening s room listed p is kept = subst (λ (c : Shown). KeepsRows c.state p) (sym is) kept
+
+-- ---- the history
+
+-- the history of the state that a board shows
+pub history_as : (b : Shown) (opening s : State) (room : Option Prepared) (listed : Bool) → b ≡ shown opening s room listed → IsHistory opening s → IsHistory b.opening b.state
+history_as b opening s room listed is history = subst (λ (c : Shown). IsHistory c.opening c.state) (sym is) history
+
+-- and that of the state to which a prepared step leads
+pub next_as : (b : Shown) (opening s : State) (room : Option Prepared) (listed : Bool) (p : Prepared) (t : Stepped) → b ≡ shown opening s room listed → IsStepped s p t → IsHistory opening t.state
+    → IsHistory b.opening (installed p b.state)
+next_as b opening s room listed p t is stepped history =
+    subst (λ (c : Shown). IsHistory c.opening (installed p c.state)) (sym is) (subst (IsHistory opening) (sym stepped.state) history)

@@ -10,6 +10,7 @@ use Rattle.desk_io.specs.Planned.{after}
 use Rattle.desk_io.specs.Rows.{Rows}
 use Rattle.desk_io.specs.declared.rows.Change.{Change}
 use Rattle.keeper.specs.Kept.{Leads}
+use Rattle.keeper.specs.Seen.{KeeperSeen}
 use Rattle.board.specs.Below.{AreKept}
 use Rattle.desk_state.specs.Lanes.{outcomes, after_items, said_of}
 use Rattle.desk_state.specs.State.{State}
@@ -19,6 +20,7 @@ use Rattle.desk_state.specs.declared.lanes.Item.TheVariants as item
 use Rattle.desk_state.specs.declared.lanes.Outcome.{Outcome}
 use Rattle.desk_state.specs.declared.lanes.Said.TheVariants as said
 use Rattle.asks.specs.declared.bad_call.BadCall.{BadCall}
+use Rattle.desk.specs.Saved.{stored_in}
 
 -- ---- a step that the keeper may fail to store
 
@@ -129,31 +131,74 @@ AreNow now c = AllByRecursion (λ n. n ≡ now) (numbers_of c)
 
 -- ---- the commits that are requested
 
--- the count of commits after a step that requests one, or none
-abbrev pub asked_if : Bool → ℕ → ℕ
-asked_if true n = after n
-asked_if false n = n
+-- the keeper stores a step that it doesn't fail at
+abbrev pub is_stored : Option ℕ → Bool
+is_stored None = true
+is_stored (Some faults) = false
+
+-- The commits of a step, each with whether it is stored: one if the step adds an entry, otherwise none.
+abbrev pub asked_if : Bool → Option ℕ → List Bool
+asked_if true fault = is_stored fault ∷ []
+asked_if false fault = []
 
 -- A call requests a commit if it adds an entry. If its tick was refused, it requests none.
-abbrev pub asked_once : Option Reply → ℕ → State → Call → ℕ → ℕ
-asked_once (Some reply) lane s call n = n
-asked_once None lane s call n = asked_if (adds s (answer_call s lane call)) n
+abbrev pub asked_once : Option Reply → Option ℕ → ℕ → State → Call → List Bool
+asked_once (Some reply) fault lane s call = []
+asked_once None fault lane s call = asked_if (adds s (answer_call s lane call)) fault
 
-abbrev pub asked_late : Option ℕ → ℕ → State → ℕ → Call → ℕ → ℕ
-asked_late tick lane s at call n = asked_once (ticked_with tick lane s at).reply lane (ticked_with tick lane s at).state call (asked_if (adds s (tick_to s lane at)) n)
+-- the commit of a tick, then the one of its call
+abbrev pub asked_late : Choice → ℕ → State → ℕ → Call → List Bool
+asked_late c lane s at call =
+    asked_if (adds s (tick_to s lane at)) c.tick ++ asked_once (ticked_with c.tick lane s at).reply c.call lane (ticked_with c.tick lane s at).state call
 
-abbrev pub asked_by : Bool → Choice → ℕ → State → ℕ → Call → ℕ → ℕ
-asked_by true c lane s at call n = asked_late c.tick lane s at call n
-asked_by false c lane s at call n = asked_once None lane s call n
+abbrev pub asked_by : Bool → Choice → ℕ → State → ℕ → Call → List Bool
+asked_by true c lane s at call = asked_late c lane s at call
+asked_by false c lane s at call = asked_once None c.call lane s call
 
--- The count of commits after a call at a moment. The tick and the call each request one if they add an entry.
-unfoldable pub commits_after : Choice → ℕ → State → ℕ → Call → ℕ → ℕ
-commits_after c lane s at call n = asked_by (nat_lt s.moment at) c lane s at call n
+-- The commits of a call at a moment. The tick and the call each request one if they add an entry.
+unfoldable pub asked_with : Choice → ℕ → State → ℕ → Call → List Bool
+asked_with c lane s at call = asked_by (nat_lt s.moment at) c lane s at call
 
 -- the same for an item
-abbrev pub commits_after_item : Choice → ℕ → State → Item → ℕ → ℕ
-commits_after_item c lane s (item.Bad fault) n = n
-commits_after_item c lane s (item.Call at call) n = commits_after c lane s at call n
+abbrev pub asked_item : Choice → ℕ → State → Item → List Bool
+asked_item c lane s (item.Bad fault) = []
+asked_item c lane s (item.Call at call) = asked_with c lane s at call
+
+-- The commits of items, each under its choice. The keeper stores every step of the items beyond the last choice.
+abbrev pub asked_all : ℕ → State → List Item → List Choice → List Bool
+asked_all lane s [] choices = []
+asked_all lane s (i ∷ rest) [] = asked_item no_choice lane s i ++ asked_all lane (item_with no_choice lane s i).state rest []
+asked_all lane s (i ∷ rest) (c ∷ cs) = asked_item c lane s i ++ asked_all lane (item_with c lane s i).state rest cs
+
+-- a count of commits after these
+abbrev pub commits_after : List Bool → ℕ → ℕ
+commits_after [] n = n
+commits_after (stored ∷ rest) n = commits_after rest (after n)
+
+-- The keeper was asked for exactly these commits: its count tells how many, and its account which of them were stored.
+pub record Asks (old new : KeeperSeen) (asked : List Bool) : Type 0 where
+  pub commits : new.commits ≡ commits_after asked old.commits
+  pub stored : stored_in new.account ≡ stored_in old.account ++ asked
+
+-- ---- what a keeper has come to
+
+-- its count of faults, and of each commit so far, in order, whether it was stored
+pub record KeptAt : Type 0 where
+  pub faults : ℕ
+  pub stored : List Bool
+
+abbrev pub kept_at : KeeperSeen → KeptAt
+kept_at keeper = record { faults = keeper.health.faults; stored = stored_in keeper.account }
+
+-- a keeper with this count of faults, of which no commit is known
+abbrev pub from_count : ℕ → KeptAt
+from_count faults = record { faults = faults; stored = [] }
+
+-- more commits may have come, and more faults
+pub record KeptLater (before after : KeptAt) : Type 0 where
+  pub asked : List Bool
+  pub stored : after.stored ≡ before.stored ++ asked
+  pub faults : before.faults ≤ after.faults
 
 -- ---- the rows
 
@@ -174,28 +219,31 @@ pub record IsGiven (given : Given) (state : State) (outcome : Outcome) (ticked c
   pub its_tick : ticked ≡ given.ticked
   pub its_call : called ≡ given.called
 
--- An answer under some choice that the keeper's counts allow. A refusal carries the new count. `commits` states how
--- many commits were requested.
-pub record GivenBetween (before after : ℕ) (commits : Choice → Type 0) (given : Choice → Given) (state : State) (outcome : Outcome) (ticked called : List Notice) : Type 0 where
+-- An answer under some choice that the keeper's counts allow. A refusal carries the new count. Exactly the commits of
+-- `asked` were requested, and those were stored at which the choice has no failure.
+pub record GivenBetween (before after : KeeperSeen) (asked : Choice → List Bool) (given : Choice → Given) (state : State) (outcome : Outcome) (ticked called : List Notice) : Type 0 where
   pub choice : Choice
-  pub counted : Counted before (choice ∷ []) after
-  pub exact : AreNow after choice
-  pub asked : commits choice
+  pub counted : Counted before.health.faults (choice ∷ []) after.health.faults
+  pub exact : AreNow after.health.faults choice
+  pub asks : Asks before after (asked choice)
   pub is : IsGiven (given choice) state outcome ticked called
 
--- the outcomes of items and the state after them, under some choices that the keeper's counts allow
-pub record AreGiven (lane before after : ℕ) (s : State) (items : List Item) (t : State) (made : List Outcome) : Type 0 where
+-- The outcomes of items and the state after them, under some choices that the keeper's counts allow. Its commits are
+-- those of the items, in order, and each failed exactly where a choice says so.
+pub record AreGiven (lane : ℕ) (before after : KeptAt) (s : State) (items : List Item) (t : State) (made : List Outcome) : Type 0 where
   pub choices : List Choice
-  pub counted : Counted before choices after
+  pub counted : Counted before.faults choices after.faults
+  pub stored : after.stored ≡ before.stored ++ asked_all lane s items choices
   pub outcomes : made ≡ outcomes_with lane s items choices
   pub state : t ≡ after_with lane s items choices
 
 -- The same for a prefix of items. Whatever items and choices follow, the outcomes so far and the later ones are those
 -- of the whole list.
-pub record AreGivenSoFar (lane before after : ℕ) (s : State) (items : List Item) (t : State) (left : List Item) (made : List Outcome) : Type 0 where
+pub record AreGivenSoFar (lane : ℕ) (before after : KeptAt) (s : State) (items : List Item) (t : State) (left : List Item) (made : List Outcome) : Type 0 where
   pub front : List Item
   pub choices : List Choice
   pub whole : items ≡ front ++ left
-  pub counted : Counted before choices after
+  pub counted : Counted before.faults choices after.faults
+  pub stored : (next : List Item) (later : List Choice) → after.stored ++ asked_all lane t next later ≡ before.stored ++ asked_all lane s (front ++ next) (choices ++ later)
   pub outcomes : (next : List Item) (later : List Choice) → made ++ outcomes_with lane t next later ≡ outcomes_with lane s (front ++ next) (choices ++ later)
   pub state : (next : List Item) (later : List Choice) → after_with lane t next later ≡ after_with lane s (front ++ next) (choices ++ later)

@@ -12,7 +12,7 @@ use Rattle.desk_state.specs.declared.lanes.Said.{Said}
 use Rattle.desk_state.specs.declared.lanes.Said.TheVariants as said
 use Rattle.made_items.specs.Calls.{Came, calls, made_at}
 use Rattle.desk.specs.InPart.{AreGivenInPart}
-use Rattle.desk.specs.Keeping.{Choice, Counted, item_with, AreGiven}
+use Rattle.desk.specs.Keeping.{AreGiven, Choice, Counted, KeptAt, asked_item, item_with}
 
 -- ---- the outcomes of calls
 
@@ -75,21 +75,22 @@ made_text number count outcomes t = first_line number count ++ (second_line outc
 
 -- ---- the run
 
--- The outcome of a made call, under some choice that the keeper's counts allow.
-pub record IsMadeOf (before after : ℕ) (s : State) (call : Call) (t : State) (o : Outcome) : Type 0 where
+-- The outcome of a made call, under some choice that the keeper's counts allow, with its commits.
+pub record IsMadeOf (before after : KeptAt) (s : State) (call : Call) (t : State) (o : Outcome) : Type 0 where
   pub choice : Choice
-  pub counted : Counted before (choice ∷ []) after
+  pub counted : Counted before.faults (choice ∷ []) after.faults
+  pub stored : after.stored ≡ before.stored ++ asked_item choice 1 s (made_item call)
   pub outcome : o ≡ (item_with choice 1 s (made_item call)).outcome
   pub state : t ≡ (item_with choice 1 s (made_item call)).state
 
 -- The items of a seed were answered in lane 1, under some choices that the keeper's counts allow. The seed makes
 -- exactly these items from their outcomes, and the text counts them.
-pub record IsMade (before after : ℕ) (s : State) (number count : ℕ) (t : State) (text : List ℕ) : Type 0 where
+pub record IsMade (before after : KeptAt) (s : State) (number count : ℕ) (t : State) (text : List ℕ) : Type 0 where
   pub outcomes : List Outcome
   pub given : AreGiven 1 before after s (made_items number count (came_of outcomes)) t outcomes
   pub says : text ≡ made_text number count outcomes t
 
 -- The same until memory ran out: a prefix of the items was answered.
-pub record IsMadeInPart (before after : ℕ) (s : State) (number count : ℕ) (t : State) : Type 0 where
+pub record IsMadeInPart (before after : KeptAt) (s : State) (number count : ℕ) (t : State) : Type 0 where
   pub came : Came
   pub given : AreGivenInPart 1 before after s (made_items number count came) t

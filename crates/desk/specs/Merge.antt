@@ -6,7 +6,7 @@ use Rattle.desk_state.specs.State.{State}
 use Rattle.desk_state.specs.declared.lanes.Item.{Item}
 use Rattle.desk_state.specs.declared.lanes.Outcome.{Outcome}
 use Rattle.desk.specs.InPart.{MayHaveBegun}
-use Rattle.desk.specs.Keeping.{Choice, Given, Counted, item_with}
+use Rattle.desk.specs.Keeping.{Asks, Choice, Given, Counted, KeptAt, KeptLater, asked_item, item_with}
 use Rattle.desk.specs.Run.{LaneShown, lane_with}
 use Rattle.desk.specs.Seen.{DeskSeen}
 
@@ -42,6 +42,11 @@ events_of s (turn ∷ rest) = event_of s turn ∷ events_of (turn_given s turn).
 abbrev pub choices_of : List Turn → List Choice
 choices_of turns = map (λ turn. turn.choice) turns
 
+-- the commits of turns, in order, each with whether it is stored
+abbrev pub asked_in : State → List Turn → List Bool
+asked_in s [] = []
+asked_in s (turn ∷ rest) = asked_item turn.choice turn.lane s turn.item ++ asked_in (turn_given s turn).state rest
+
 -- the events of one lane
 abbrev pub of_lane : ℕ → List Event → List Event
 of_lane number events = filter (λ e. e.lane == number) events
@@ -56,20 +61,23 @@ abbrev pub IsAmong : ℕ → Turn → Type 0
 IsAmong count turn = (1 ≤ turn.lane) × (turn.lane ≤ count)
 
 -- The outcomes of the lanes are those of turns that lead from one state to another. The keeper's counts before and
--- after them allow the turns' choices. Each turn is of one of the lanes, and each outcome of a lane is that of one of
--- its turns.
-pub record AreMerged (before after : ℕ) (s : State) (lanes : List LaneShown) (t : State) : Type 0 where
+-- after them allow the turns' choices, and its commits are those of the turns, in order. Each turn is of one of the
+-- lanes, and each outcome of a lane is that of one of its turns.
+pub record AreMerged (before after : KeptAt) (s : State) (lanes : List LaneShown) (t : State) : Type 0 where
   pub turns : List Turn
-  pub counted : Counted before (choices_of turns) after
+  pub counted : Counted before.faults (choices_of turns) after.faults
+  pub stored : after.stored ≡ before.stored ++ asked_in s turns
   pub state : t ≡ after_turns s turns
   pub among : AllByRecursion (IsAmong (length lanes)) turns
   pub askable : AllByRecursion (λ turn. IsAskable turn.item) turns
   pub each : (n : ℕ) (lane : LaneShown) → slice_get lanes n ≡ Some lane → LaneHas (events_of s turns) (n + 1) lane
 
--- The outcome of an item, and the state after it, under some choice that the keeper's counts allow.
+-- The outcome of an item, and the state after it, under some choice that the keeper's counts allow, with the item's
+-- commits.
 pub record IsTurn (lane : ℕ) (item : Item) (old new : DeskSeen) (outcome : Outcome) : Type 0 where
   pub choice : Choice
   pub counted : Counted old.keeper.health.faults (choice ∷ []) new.keeper.health.faults
+  pub asks : Asks old.keeper new.keeper (asked_item choice lane old.state item)
   pub outcome_is : outcome ≡ (item_with choice lane old.state item).outcome
   pub state_is : new.state ≡ (item_with choice lane old.state item).state
 
@@ -103,7 +111,10 @@ pub record HasBegunOne (lanes : List LaneShown) (s t : State) : Type 0 where
 
 -- Memory ran out among the turns of lanes. The outcomes so far form one history. After them at most one tick was
 -- made.
-pub record AreMergedInPart (before after : ℕ) (s : State) (lanes : List LaneShown) (t : State) : Type 0 where
+pub record AreMergedInPart (before after : KeptAt) (s : State) (lanes : List LaneShown) (t : State) : Type 0 where
   pub mid : State
-  pub merged : AreMerged before after s lanes mid
+  -- what the keeper had come to after the outcomes
+  pub kept : KeptAt
+  pub merged : AreMerged before kept s lanes mid
+  pub later : KeptLater kept after
   pub left : (t ≡ mid) ⊎ HasBegunOne lanes mid t

@@ -15,7 +15,7 @@ use Rattle.keeper.specs.declared.account.AccountEntry.{AccountEntry}
 use Rattle.keeper.specs.declared.account.AccountEntry.TheVariants.{Load, Commit}
 use Rattle.keeper.specs.declared.account.Outcome.TheVariants.{Done}
 use Rattle.desk.specs.Keeping.{KeepsState}
-use Rattle.desk.specs.Saved.{Saves}
+use Rattle.desk.specs.Saved.{Saves, stored_in}
 use Rattle.keeper.specs.Order.{rising}
 use Rattle.keeper.specs.declared.keeping.KeepFault.{KeepFault}
 use Rattle.board.specs.Below.{AreKept, AreOldRows, IsDesk, IsFaultOf, are_old, RowsFault, Record, state_in, reopened, opened_changes}
@@ -189,8 +189,14 @@ pub record LoadsInVain (old new : List AccountEntry) (tables : TableRows) : Type
 abbrev pub NotEntered : List AccountEntry → List AccountEntry → TableRows → OpenWhy → Type 0
 NotEntered old new tables why = NotRead old new why ⊎ (IsOfKeeper (Unit {0}) why × LoadsInVain old new tables)
 
+-- that the commit of opening was stored, if there is one
+abbrev pub stored_at_opening : TableRows → List Record → Bool → List Bool
+stored_at_opening tables records first = stored_in (commits_of (opening_changes tables records first))
+
 -- The board is opened over the rows that the keeper's account says were loaded, and the rows that are kept are those
 -- of its state.
 pub record OpensOver (old new : KeeperSeen) (tables : TableRows) (board : Shown) : Type 0 where
   pub entered : IsEntered old.account new.account tables board.opening board.state
+  -- nothing was asked after opening
+  pub none : entered.later ≡ []
   pub kept : KeepsState (kept_rows new) board.state

@@ -10,6 +10,7 @@ use Rattle.desk_state.specs.declared.entry.What.{What}
 use Rattle.desk_state.specs.declared.entry.What.TheVariants.{Tick, Asked}
 use Rattle.desk_state.specs.declared.lanes.Outcome.{Outcome}
 use Rattle.desk_time.specs.Moments.{shown}
+use Rattle.desk.specs.Keeping.{KeptAt}
 use Rattle.desk.specs.Merge.{AreMerged, AreMergedInPart, is_done}
 use Rattle.desk.specs.Positions.{AreOneHistory}
 use Rattle.desk.specs.Round.{items_in}
@@ -59,18 +60,18 @@ lane_of script = lane_with (items_of (lines_of script)) []
 abbrev pub lanes_of : List (List ℕ) → List LaneShown
 lanes_of scripts = map lane_of scripts
 
--- A race of scripts from one state to another, between two counts of the keeper's faults. Every line has its outcome
--- in the one history of the desk. Each outcome follows from its position.
-pub record IsRace (before after : ℕ) (s : State) (scripts : List (List ℕ)) (t : State) (text : List ℕ) : Type 0 where
+-- A race of scripts from one state to another, between two moments of the keeper. Every line has its outcome in the one
+-- history of the desk. Each outcome follows from its position.
+pub record IsRace (before after : KeptAt) (s : State) (scripts : List (List ℕ)) (t : State) (text : List ℕ) : Type 0 where
   pub lanes : List LaneShown
   pub items : map items_in lanes ≡ map items_in (lanes_of scripts)
   pub done : list_all is_done lanes ≡ true
   pub merged : AreMerged before after s lanes t
-  pub history : AreOneHistory before after s lanes t
+  pub history : AreOneHistory before.faults after.faults s lanes t
   pub says : text ≡ race_text t lanes
 
 -- Memory ran out in a race. The outcomes so far form one history. After them at most one tick was made.
-pub record IsRaceInPart (before after : ℕ) (s : State) (scripts : List (List ℕ)) (t : State) : Type 0 where
+pub record IsRaceInPart (before after : KeptAt) (s : State) (scripts : List (List ℕ)) (t : State) : Type 0 where
   pub lanes : List LaneShown
   pub items : map items_in lanes ≡ map items_in (lanes_of scripts)
   pub part : AreMergedInPart before after s lanes t

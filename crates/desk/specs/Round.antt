@@ -4,7 +4,7 @@ use Rattle.desk_state.specs.State.{State, start}
 use Rattle.desk_state.specs.declared.lanes.Item.{Item}
 use Rattle.keeper.specs.Seen.{KeeperSeen}
 use Rattle.ops_tables.specs.Tables.{TableRows}
-use Rattle.desk.specs.Keeping.{Choice, item_with}
+use Rattle.desk.specs.Keeping.{Choice, item_with, kept_at}
 use Rattle.desk.specs.Merge.{AreMerged, AreMergedInPart}
 use Rattle.desk.specs.Run.{LaneShown, lane_with}
 use Rattle.desk.specs.Seen.{DeskSeen, DeskGoesOn}
@@ -29,8 +29,8 @@ round_of s lanes ended = record { state = s; lanes = lanes; ended = ended }
 -- The outcomes so far form one history. If memory ran out, at most one tick was made after them.
 abbrev pub AreTaken : Began → DeskSeen → List LaneShown → Bool → Type 0
 AreTaken began desk lanes ended =
-    MatchBool ended (AreMergedInPart began.desk.keeper.health.faults desk.keeper.health.faults began.desk.state lanes desk.state)
-    (AreMerged began.desk.keeper.health.faults desk.keeper.health.faults began.desk.state lanes desk.state)
+    MatchBool ended (AreMergedInPart (kept_at began.desk.keeper) (kept_at desk.keeper) began.desk.state lanes desk.state)
+    (AreMerged (kept_at began.desk.keeper) (kept_at desk.keeper) began.desk.state lanes desk.state)
 
 -- The desk goes on from the one that began, and the lanes keep their items. The outcomes so far form the history from
 -- the first state to the present one.

@@ -13,7 +13,7 @@ use Rattle.desk_state.specs.declared.lanes.Said.TheVariants as said
 use Rattle.desk_state.specs.State.{State}
 use Rattle.desk_state.specs.Lanes.{outcomes, after_items}
 use Rattle.desk_state.specs.Texts.{closing}
-use Rattle.desk.specs.Keeping.{Choice, Counted, outcomes_with, after_with}
+use Rattle.desk.specs.Keeping.{Choice, Counted, KeptAt, after_with, asked_all, outcomes_with}
 
 -- the nonempty lines of a script
 abbrev pub lines_of : List ℕ → List (List ℕ)
@@ -49,16 +49,18 @@ abbrev pub texts_of : List Outcome → List ℕ
 texts_of [] = []
 texts_of (o ∷ rest) = outcome_text o ++ texts_of rest
 
--- A run of items in lane 1 from one state to another, under some choices that the keeper's counts allow. The text has
--- a line for each item, then the closing text.
-pub record IsRunOf (before after : ℕ) (s : State) (items : List Item) (t : State) (text : List ℕ) : Type 0 where
+-- A run of items in lane 1 from one state to another, under some choices that the keeper's counts allow. The keeper's
+-- commits are those of the items, in order, and each failed exactly where a choice says so. The text has a line for each
+-- item, then the closing text.
+pub record IsRunOf (before after : KeptAt) (s : State) (items : List Item) (t : State) (text : List ℕ) : Type 0 where
   pub choices : List Choice
-  pub counted : Counted before choices after
+  pub counted : Counted before.faults choices after.faults
+  pub stored : after.stored ≡ before.stored ++ asked_all 1 s items choices
   pub says : text ≡ texts_of (outcomes_with 1 s items choices) ++ closing t
   pub state : t ≡ after_with 1 s items choices
   -- if the keeper's count didn't rise, every step was stored
-  pub steady : after ≡ before → text ≡ texts_of (outcomes 1 s items) ++ closing (after_items 1 s items)
+  pub steady : after.faults ≡ before.faults → text ≡ texts_of (outcomes 1 s items) ++ closing (after_items 1 s items)
 
 -- a run of the items in a script's lines
-abbrev pub IsRun : ℕ → ℕ → State → List ℕ → State → List ℕ → Type 0
+abbrev pub IsRun : KeptAt → KeptAt → State → List ℕ → State → List ℕ → Type 0
 IsRun before after s script t text = IsRunOf before after s (items_of (lines_of script)) t text

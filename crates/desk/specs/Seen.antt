@@ -1,9 +1,9 @@
 -- The model of a desk in contracts, and what its calls preserve.
-use Rattle.std.specs.Prelude.{◌≡◌, ℕ, Bool, IsTrue, List}
+use Rattle.std.specs.Prelude.{◌≡◌, Bool, IsTrue, List}
 use Rattle.alerts.specs.Ringing.{Hung, AreRung, hung_all}
 use Rattle.alerts.specs.Seen.{BellSeen}
 use Rattle.desk.specs.Heard.{told_by_all}
-use Rattle.desk.specs.Keeping.{KeepsState}
+use Rattle.desk.specs.Keeping.{KeepsState, KeptAt, kept_at}
 use Rattle.desk.specs.Saved.{SavesBetween}
 use Rattle.desk.specs.declared.settling.Desk.{Desk}
 use Rattle.desk_state.specs.State.{State}
@@ -49,10 +49,10 @@ pub record DeskGoesOn (old new : DeskSeen) : Type 0 where
   pub listed : IsTrue old.listed → IsTrue new.listed
   pub rung : (bells : List Hung) → AreRungSince bells old → AreRungSince bells new
 
--- the state and the keeper's count of faults, from which answers follow
+-- the state and what the keeper has come to, from which answers follow
 pub record DeskAt : Type 0 where
   pub state : State
-  pub faults : ℕ
+  pub kept : KeptAt
 
 abbrev pub desk_at : {K B : Type 0} → (K → KeeperSeen) → Desk K B → DeskAt
-desk_at seen desk = record { state = desk.board.state; faults = (seen desk.keeper).health.faults }
+desk_at seen desk = record { state = desk.board.state; kept = kept_at (seen desk.keeper) }

@@ -10,7 +10,7 @@ use Rattle.desk_state.specs.State.{State}
 use Rattle.desk_state.specs.Step.{Stepped, tick_to}
 use Rattle.desk_state.specs.declared.lanes.Item.{Item}
 use Rattle.desk_state.specs.declared.lanes.Said.TheVariants as said
-use Rattle.desk.specs.Keeping.{Choice, Given, IsGiven, GivenBetween, answer_with, item_with, commits_after, commits_after_item}
+use Rattle.desk.specs.Keeping.{Choice, Given, IsGiven, GivenBetween, answer_with, asked_item, asked_with, item_with}
 use Rattle.desk.specs.Seen.{DeskSeen}
 use Rattle.desk.specs.declared.answering.Answered.{Answered}
 use Rattle.desk.specs.declared.answering.AnsweredWith.{AnsweredWith}
@@ -41,17 +41,15 @@ abbrev pub Gives : Given → State → Answered → Type 0
 Gives given t a = IsGiven given t a.outcome a.ticked a.called
 
 -- The answer to a call of a lane at a moment, under some choice that the keeper's counts allow, with the commits it
--- requested.
+-- requested, of which each failed exactly where the choice says so.
 abbrev pub AnswersCall : ℕ → ℕ → Call → DeskSeen → DeskSeen → Answered → Type 0
 AnswersCall lane at call old new a =
-    GivenBetween old.keeper.health.faults new.keeper.health.faults (λ c. new.keeper.commits ≡ commits_after c lane old.state at call old.keeper.commits)
-    (λ c. answer_with c lane old.state at call) new.state a.outcome a.ticked a.called
+    GivenBetween old.keeper new.keeper (λ c. asked_with c lane old.state at call) (λ c. answer_with c lane old.state at call) new.state a.outcome a.ticked a.called
 
 -- the same for an item
 abbrev pub AnswersItem : ℕ → Item → DeskSeen → DeskSeen → Answered → Type 0
 AnswersItem lane i old new a =
-    GivenBetween old.keeper.health.faults new.keeper.health.faults (λ c. new.keeper.commits ≡ commits_after_item c lane old.state i old.keeper.commits)
-    (λ c. item_with c lane old.state i) new.state a.outcome a.ticked a.called
+    GivenBetween old.keeper new.keeper (λ c. asked_item c lane old.state i) (λ c. item_with c lane old.state i) new.state a.outcome a.ticked a.called
 
 -- the outcome and the state after it are those of a lane over a keeper that never fails
 abbrev pub IsSaid : lanes.Answered → State → Answered → Type 0

@@ -11,7 +11,7 @@ ghost use Rattle.desk.specs.Again.{AllMayComeAgain};
 ghost use Rattle.desk.specs.Counted as counted;
 ghost use Rattle.desk.specs.Counted.{most_answered};
 ghost use Rattle.desk.specs.Keeping as spec;
-ghost use Rattle.desk.specs.Keeping.{adds, AreNow, Counted, CountedOnce};
+ghost use Rattle.desk.specs.Keeping.{adds, AreNow, Asks, Counted, CountedOnce};
 ghost use Rattle.desk.specs.Seen.{desk_seen, DeskGoesOn};
 ghost use Rattle.desk.specs.Settled.{IsSettled, MayHaveTicked, choice_of, Gives, AnswersCall, IsSaid, done_again};
 ghost use Rattle.desk.specs.Shown.{IsShown, CanBeSaid};
@@ -63,8 +63,8 @@ pub fn make_call<K: Keeper, B: Bell, L: Ledger>(
     ensures on { DeskGoesOn (desk_seen K.seen B.seen desk.old) (desk_seen K.seen B.seen desk.new) }
     ensures count { IfOk result (λ r. CountedOnce (K.seen desk.old.keeper).health.faults r.fault
         (K.seen desk.new.keeper).health.faults) }
-    ensures asked { IfOk result (λ r. (K.seen desk.new.keeper).commits ≡ spec.asked_if
-        (adds desk.old.board.state (answer_call desk.old.board.state lane call.now)) (K.seen desk.old.keeper).commits) }
+    ensures asks { IfOk result (λ r. Asks (K.seen desk.old.keeper) (K.seen desk.new.keeper)
+        (spec.asked_if (adds desk.old.board.state (answer_call desk.old.board.state lane call.now)) r.fault)) }
     ensures still { adds desk.old.board.state (answer_call desk.old.board.state lane call.now) ≡ false
         → desk.new.keeper ≡ desk.old.keeper }
     ensures steps { steps.new ≤ steps.old + most_judged desk.old.board.state call.now.ask }
@@ -92,8 +92,8 @@ pub fn make_tick<K: Keeper, B: Bell, L: Ledger>(
     ensures on { DeskGoesOn (desk_seen K.seen B.seen desk.old) (desk_seen K.seen B.seen desk.new) }
     ensures count { IfOk result (λ r. CountedOnce (K.seen desk.old.keeper).health.faults r.fault
         (K.seen desk.new.keeper).health.faults) }
-    ensures asked { IfOk result (λ r. (K.seen desk.new.keeper).commits ≡ spec.asked_if
-        (adds desk.old.board.state (tick_to desk.old.board.state lane to)) (K.seen desk.old.keeper).commits) }
+    ensures asks { IfOk result (λ r. Asks (K.seen desk.old.keeper) (K.seen desk.new.keeper)
+        (spec.asked_if (adds desk.old.board.state (tick_to desk.old.board.state lane to)) r.fault)) }
     ensures told { IfOk result (λ r. IfSome r.fault (λ n. r.reply ≡ Some (Reply.Refused (Refusal.Unkept n)))) }
     ensures steps { steps.new ≤ steps.old + most_ticked desk.old.board.state to }
 {
@@ -121,8 +121,8 @@ fn once_ticked<K: Keeper, B: Bell, L: Ledger>(
         (K.seen desk.new.keeper).health.faults) }
     ensures err { OnErr result (desk.new.board.state ≡ desk.old.board.state) }
     ensures on { DeskGoesOn (desk_seen K.seen B.seen desk.old) (desk_seen K.seen B.seen desk.new) }
-    ensures asked { IfOk result (λ r. (K.seen desk.new.keeper).commits ≡ spec.asked_once refused lane
-        desk.old.board.state call.now (K.seen desk.old.keeper).commits) }
+    ensures asks { IfOk result (λ r. Asks (K.seen desk.old.keeper) (K.seen desk.new.keeper)
+        (spec.asked_once refused r.fault lane desk.old.board.state call.now)) }
     ensures stays { IfOk result (λ r. IfSome refused
         (λ reply. (r.fault ≡ None) × IsStill (K.seen desk.old.keeper).health (K.seen desk.new.keeper).health)) }
     ensures steps { steps.new ≤ steps.old + counted.most_once_ticked refused desk.old.board.state call.now.ask }
@@ -195,8 +195,8 @@ fn answer_now<K: Keeper, B: Bell, L: Ledger>(
     ensures err { OnErr result (desk.new.board.state ≡ desk.old.board.state) }
     ensures on { DeskGoesOn (desk_seen K.seen B.seen desk.old) (desk_seen K.seen B.seen desk.new) }
     ensures exact { IfOk result (λ j. AreNow (K.seen desk.new.keeper).health.faults (choice_of j)) }
-    ensures asked { IfOk result (λ j. (K.seen desk.new.keeper).commits ≡ spec.asked_once None lane
-        desk.old.board.state call.now (K.seen desk.old.keeper).commits) }
+    ensures asks { IfOk result (λ j. Asks (K.seen desk.old.keeper) (K.seen desk.new.keeper)
+        (spec.asked_once None j.call lane desk.old.board.state call.now)) }
     ensures still { adds desk.old.board.state (answer_call desk.old.board.state lane call.now) ≡ false
         → desk.new.keeper ≡ desk.old.keeper }
     ensures steps { steps.new ≤ steps.old + most_judged desk.old.board.state call.now.ask }
@@ -226,8 +226,8 @@ fn answer_late<K: Keeper, B: Bell, L: Ledger>(
         (K.seen desk.new.keeper).health.faults) }
     ensures err { OnErr result (MayHaveTicked lane at desk.old.board.state desk.new.board.state) }
     ensures on { DeskGoesOn (desk_seen K.seen B.seen desk.old) (desk_seen K.seen B.seen desk.new) }
-    ensures asked { IfOk result (λ j. (K.seen desk.new.keeper).commits ≡ spec.asked_late j.tick lane
-        desk.old.board.state at call.now (K.seen desk.old.keeper).commits) }
+    ensures asks { IfOk result (λ j. Asks (K.seen desk.old.keeper) (K.seen desk.new.keeper)
+        (spec.asked_late (choice_of j) lane desk.old.board.state at call.now)) }
     ensures exact { IfOk result (λ j. AreNow (K.seen desk.new.keeper).health.faults (choice_of j)) }
     ensures steps { steps.new ≤ steps.old + counted.most_if_late true lane desk.old.board.state at call.now.ask }
 {
@@ -243,7 +243,7 @@ fn answer_late<K: Keeper, B: Bell, L: Ledger>(
 
 /// Answers a call of a lane at a moment. If the moment is later than the desk's, the desk ticks to it first. The
 /// keeper stores the changes of each step before the step is installed.
-#[tactic(auto, unfolding(crate::specs::Keeping::answer_with, crate::specs::Keeping::commits_after))]
+#[tactic(auto, unfolding(crate::specs::Keeping::answer_with, crate::specs::Keeping::asked_with))]
 pub(crate) fn answer_with<K: Keeper, B: Bell, L: Ledger>(
     alloc: Global,
     desk: &mut Desk<K, B>,
@@ -262,8 +262,8 @@ pub(crate) fn answer_with<K: Keeper, B: Bell, L: Ledger>(
     ensures err { OnErr result (MayHaveTicked lane at desk.old.board.state desk.new.board.state) }
     ensures on { DeskGoesOn (desk_seen K.seen B.seen desk.old) (desk_seen K.seen B.seen desk.new) }
     ensures exact { IfOk result (λ j. AreNow (K.seen desk.new.keeper).health.faults (choice_of j)) }
-    ensures asked { IfOk result (λ j. (K.seen desk.new.keeper).commits ≡ spec.commits_after (choice_of j) lane
-        desk.old.board.state at call.now (K.seen desk.old.keeper).commits) }
+    ensures asks { IfOk result (λ j. Asks (K.seen desk.old.keeper) (K.seen desk.new.keeper)
+        (spec.asked_with (choice_of j) lane desk.old.board.state at call.now)) }
     ensures still { at ≤ desk.old.board.state.moment → adds desk.old.board.state
         (answer_call desk.old.board.state lane call.now) ≡ false → desk.new.keeper ≡ desk.old.keeper }
     ensures steps { steps.new ≤ steps.old + most_answered lane desk.old.board.state at call.now.ask }
@@ -291,7 +291,8 @@ pub fn answer<K: Keeper, B: Bell, L: Ledger>(
     requires within { moment ≤ LAST }
     requires call { CallHasForms call.now }
     // The answer follows from where the keeper failed. The counts in refusals (26 `Unkept`) rise strictly. The tick
-    // and the call each request a commit if they add an entry. Nothing else requests one.
+    // and the call each request a commit if they add an entry, which fails exactly if its step is refused so. Nothing
+    // else requests one.
     ensures given { IfOk result
         (λ a. AnswersCall lane moment call.now (desk_seen K.seen B.seen desk.old)
         (desk_seen K.seen B.seen desk.new) a) }

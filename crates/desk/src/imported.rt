@@ -2,6 +2,7 @@ ghost use Rattle.std.specs.Prelude.{◌≡◌, IfOk, OnErr};
 ghost use Rattle.std.specs.List.{AllByRecursion};
 ghost use Rattle.desk.specs.InPart.{AreGivenInPart};
 ghost use Rattle.desk.specs.Items.{items_of_lines};
+ghost use Rattle.desk.specs.Keeping.{kept_at};
 ghost use Rattle.desk.specs.Run as spec;
 ghost use Rattle.desk.specs.Run.{IsRunOf};
 ghost use Rattle.desk.specs.Seen.{desk_seen, DeskGoesOn};
@@ -90,12 +91,12 @@ pub fn text_of_import<K: Keeper, B: Bell, G: Gate, L: Ledger>(
     steps: &mut Steps<L>,
 ) -> Result<Vec<u8>, OutOfMemory>
     requires { AllByRecursion HasForms lines.items }
-    ensures run { IfOk result (λ v. IsRunOf (K.seen desk.old.keeper).health.faults
-        (K.seen desk.new.keeper).health.faults desk.old.board.state (items_of_lines lines.items)
+    ensures run { IfOk result (λ v. IsRunOf (kept_at (K.seen desk.old.keeper))
+        (kept_at (K.seen desk.new.keeper)) desk.old.board.state (items_of_lines lines.items)
         desk.new.board.state v.items) }
     // If memory runs out, a prefix of the records was answered. Of the next record at most the tick was made.
-    ensures err { OnErr result (AreGivenInPart 1 (K.seen desk.old.keeper).health.faults
-        (K.seen desk.new.keeper).health.faults desk.old.board.state (items_of_lines lines.items)
+    ensures err { OnErr result (AreGivenInPart 1 (kept_at (K.seen desk.old.keeper))
+        (kept_at (K.seen desk.new.keeper)) desk.old.board.state (items_of_lines lines.items)
         desk.new.board.state) }
     ensures on { DeskGoesOn (desk_seen K.seen B.seen desk.old) (desk_seen K.seen B.seen desk.new) }
 {

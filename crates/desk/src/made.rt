@@ -1,7 +1,7 @@
 ghost use Rattle.std.specs.Prelude.{◌≡◌, ◌≤◌, ◌++◌, length, ℕ, IfOk, OnOk, OnErr};
 ghost use Rattle.asks.specs.Forms.{CallHasForms};
 ghost use Rattle.desk.specs.InPart.{MayHaveBegun};
-ghost use Rattle.desk.specs.Keeping.{AreGiven};
+ghost use Rattle.desk.specs.Keeping.{AreGiven, kept_at};
 ghost use Rattle.desk.specs.Made as spec;
 ghost use Rattle.desk.specs.Made.{came_of, made_item, made_items, IsMade, IsMadeInPart, IsMadeOf};
 ghost use Rattle.desk.specs.Seen.{desk_seen, DeskGoesOn};
@@ -72,8 +72,8 @@ fn answer_made_call<K: Keeper, B: Bell, G: Gate, L: Ledger>(
     steps: &mut Steps<L>,
 ) -> Result<Outcome, OutOfMemory>
     requires { CallHasForms call }
-    ensures given { IfOk result (λ o. IsMadeOf (K.seen desk.old.keeper).health.faults
-        (K.seen desk.new.keeper).health.faults desk.old.board.state call desk.new.board.state o) }
+    ensures given { IfOk result (λ o. IsMadeOf (kept_at (K.seen desk.old.keeper))
+        (kept_at (K.seen desk.new.keeper)) desk.old.board.state call desk.new.board.state o) }
     ensures err { OnErr result (MayHaveBegun 1 (made_item call) desk.old.board.state desk.new.board.state) }
     ensures on { DeskGoesOn (desk_seen K.seen B.seen desk.old) (desk_seen K.seen B.seen desk.new) }
 {
@@ -95,11 +95,11 @@ fn outcomes_made<K: Keeper, B: Bell, G: Gate, L: Ledger>(
     steps: &mut Steps<L>,
 ) -> Result<Vec<Outcome>, OutOfMemory>
     requires { count ≤ 20_000 }
-    ensures given { IfOk result (λ v. AreGiven 1 (K.seen desk.old.keeper).health.faults
-        (K.seen desk.new.keeper).health.faults desk.old.board.state (made_items number count (came_of v.items))
+    ensures given { IfOk result (λ v. AreGiven 1 (kept_at (K.seen desk.old.keeper))
+        (kept_at (K.seen desk.new.keeper)) desk.old.board.state (made_items number count (came_of v.items))
         desk.new.board.state v.items) }
-    ensures err { OnErr result (IsMadeInPart (K.seen desk.old.keeper).health.faults
-        (K.seen desk.new.keeper).health.faults desk.old.board.state number count desk.new.board.state) }
+    ensures err { OnErr result (IsMadeInPart (kept_at (K.seen desk.old.keeper))
+        (kept_at (K.seen desk.new.keeper)) desk.old.board.state number count desk.new.board.state) }
     ensures on { DeskGoesOn (desk_seen K.seen B.seen desk.old) (desk_seen K.seen B.seen desk.new) }
 {
     gate.expects(how_many(count));
@@ -191,11 +191,11 @@ pub fn make_from<K: Keeper, B: Bell, G: Gate, L: Ledger>(
     steps: &mut Steps<L>,
 ) -> Result<Vec<u8>, OutOfMemory>
     requires { count ≤ 20_000 }
-    ensures made { IfOk result (λ v. IsMade (K.seen desk.old.keeper).health.faults
-        (K.seen desk.new.keeper).health.faults desk.old.board.state number count desk.new.board.state v.items) }
+    ensures made { IfOk result (λ v. IsMade (kept_at (K.seen desk.old.keeper))
+        (kept_at (K.seen desk.new.keeper)) desk.old.board.state number count desk.new.board.state v.items) }
     // If memory runs out, a prefix of the items was answered. Of the next item at most the tick was made.
-    ensures err { OnErr result (IsMadeInPart (K.seen desk.old.keeper).health.faults
-        (K.seen desk.new.keeper).health.faults desk.old.board.state number count desk.new.board.state) }
+    ensures err { OnErr result (IsMadeInPart (kept_at (K.seen desk.old.keeper))
+        (kept_at (K.seen desk.new.keeper)) desk.old.board.state number count desk.new.board.state) }
     ensures on { DeskGoesOn (desk_seen K.seen B.seen desk.old) (desk_seen K.seen B.seen desk.new) }
 {
     let outcomes = outcomes_made(alloc, desk, number, count, gate, steps)?;

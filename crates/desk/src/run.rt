@@ -1,7 +1,7 @@
 ghost use Rattle.std.specs.Prelude.{◌≡◌, ◌++◌, [], IfOk, OnErr, OnOk};
 ghost use Rattle.desk_state.specs.Texts.{closing};
 ghost use Rattle.desk.specs.InPart.{AreGivenInPart, IsRunInPart, MayHaveBegun};
-ghost use Rattle.desk.specs.Keeping.{bad_given};
+ghost use Rattle.desk.specs.Keeping.{bad_given, kept_at};
 ghost use Rattle.desk.specs.Run as spec;
 ghost use Rattle.desk.specs.Run.{IsRun, IsRunOf};
 ghost use Rattle.desk.specs.Seen.{desk_seen, DeskGoesOn};
@@ -136,10 +136,10 @@ pub(crate) fn text_of_items<K: Keeper, B: Bell, G: Gate, L: Ledger, I: Items>(
     gate: &G,
     steps: &mut Steps<L>,
 ) -> Result<Vec<u8>, OutOfMemory>
-    ensures run { IfOk result (λ v. IsRunOf (K.seen desk.old.keeper).health.faults
-        (K.seen desk.new.keeper).health.faults desk.old.board.state (I.left items.old) desk.new.board.state v.items) }
-    ensures err { OnErr result (AreGivenInPart LANE (K.seen desk.old.keeper).health.faults
-        (K.seen desk.new.keeper).health.faults desk.old.board.state (I.left items.old) desk.new.board.state) }
+    ensures run { IfOk result (λ v. IsRunOf (kept_at (K.seen desk.old.keeper))
+        (kept_at (K.seen desk.new.keeper)) desk.old.board.state (I.left items.old) desk.new.board.state v.items) }
+    ensures err { OnErr result (AreGivenInPart LANE (kept_at (K.seen desk.old.keeper))
+        (kept_at (K.seen desk.new.keeper)) desk.old.board.state (I.left items.old) desk.new.board.state) }
     ensures on { DeskGoesOn (desk_seen K.seen B.seen desk.old) (desk_seen K.seen B.seen desk.new) }
 {
     gate.expects(items.how_many() as u64);
@@ -163,11 +163,11 @@ pub fn text_from<K: Keeper, B: Bell, G: Gate, L: Ledger>(
     gate: &G,
     steps: &mut Steps<L>,
 ) -> Result<Vec<u8>, OutOfMemory>
-    ensures run { IfOk result (λ v. IsRun (K.seen desk.old.keeper).health.faults
-        (K.seen desk.new.keeper).health.faults desk.old.board.state script.now desk.new.board.state v.items) }
+    ensures run { IfOk result (λ v. IsRun (kept_at (K.seen desk.old.keeper))
+        (kept_at (K.seen desk.new.keeper)) desk.old.board.state script.now desk.new.board.state v.items) }
     // If memory runs out, a prefix of the lines was answered. Of the next line at most the tick was made.
-    ensures err { OnErr result (IsRunInPart (K.seen desk.old.keeper).health.faults
-        (K.seen desk.new.keeper).health.faults desk.old.board.state script.now desk.new.board.state) }
+    ensures err { OnErr result (IsRunInPart (kept_at (K.seen desk.old.keeper))
+        (kept_at (K.seen desk.new.keeper)) desk.old.board.state script.now desk.new.board.state) }
     ensures on { DeskGoesOn (desk_seen K.seen B.seen desk.old) (desk_seen K.seen B.seen desk.new) }
 {
     let lines = runs_between::<LineFeeds>(alloc, script)?;

@@ -1,6 +1,7 @@
 ghost use Rattle.std.specs.Prelude.{◌≡◌, ◌-◌, ◌^◌, false, true, length, map, min, sum_by, IsTrue, IfOk};
 ghost use Rattle.std.specs.Bool.{OnTrue};
 ghost use Rattle.std.specs.List.{AllByRecursion, list_all};
+ghost use Rattle.desk.specs.Keeping.{kept_at};
 ghost use Rattle.desk.specs.Merge.{AreMerged, AreMergedInPart, IsFresh, is_done};
 ghost use Rattle.desk.specs.Positions.{AreOneHistory};
 ghost use Rattle.desk.specs.Race.{IsRace, IsRaceInPart, race_text};
@@ -139,10 +140,10 @@ fn run_from<
     requires fresh { AllByRecursion IsFresh lanes.items }
     ensures on { DeskGoesOn J.began.desk (desk_seen K.seen B.seen result.desk) }
     ensures items { map items_in result.lanes.items ≡ J.began.items }
-    ensures merged { OnTrue result.whole (AreMerged J.began.desk.keeper.health.faults
-        (K.seen result.desk.keeper).health.faults J.began.desk.state result.lanes.items result.desk.board.state) }
+    ensures merged { OnTrue result.whole (AreMerged (kept_at J.began.desk.keeper)
+        (kept_at (K.seen result.desk.keeper)) J.began.desk.state result.lanes.items result.desk.board.state) }
     ensures done { OnTrue result.whole (list_all is_done result.lanes.items ≡ true) }
-    ensures part { AreMergedInPart J.began.desk.keeper.health.faults (K.seen result.desk.keeper).health.faults
+    ensures part { AreMergedInPart (kept_at J.began.desk.keeper) (kept_at (K.seen result.desk.keeper))
         J.began.desk.state result.lanes.items result.desk.board.state }
 {
     let count = lanes.len();
@@ -166,14 +167,14 @@ pub fn run_lanes<K: Keeper + Send, B: Bell + Send, G: Gate + Sync, R: Threads + 
     // Each lane keeps its items.
     ensures items { map items_in result.lanes.items ≡ map items_in lanes.items }
     // Every item has its outcome, in the one history from the first state of the desk to its last.
-    ensures merged { OnTrue result.whole (AreMerged (K.seen desk.keeper).health.faults
-        (K.seen result.desk.keeper).health.faults desk.board.state result.lanes.items result.desk.board.state) }
+    ensures merged { OnTrue result.whole (AreMerged (kept_at (K.seen desk.keeper))
+        (kept_at (K.seen result.desk.keeper)) desk.board.state result.lanes.items result.desk.board.state) }
     ensures done { OnTrue result.whole (list_all is_done result.lanes.items ≡ true) }
     // Each outcome follows from its position in the history.
     ensures history { OnTrue result.whole (AreOneHistory (K.seen desk.keeper).health.faults
         (K.seen result.desk.keeper).health.faults desk.board.state result.lanes.items result.desk.board.state) }
     // If memory ran out, the outcomes so far form one history. After them at most one tick was made.
-    ensures part { AreMergedInPart (K.seen desk.keeper).health.faults (K.seen result.desk.keeper).health.faults
+    ensures part { AreMergedInPart (kept_at (K.seen desk.keeper)) (kept_at (K.seen result.desk.keeper))
         desk.board.state result.lanes.items result.desk.board.state }
     ensures on { DeskGoesOn (desk_seen K.seen B.seen desk) (desk_seen K.seen B.seen result.desk) }
 {
@@ -214,10 +215,10 @@ pub fn race<K: Keeper + Send, B: Bell + Send, G: Gate + Sync, R: Threads + Wait 
     gate: &G,
 ) -> Raced<K, B>
     requires listed { IsTrue desk.board.listed }
-    ensures race { IfOk result.text (λ t. IsRace (K.seen desk.keeper).health.faults
-        (K.seen result.desk.keeper).health.faults desk.board.state scripts.now result.desk.board.state t) }
+    ensures race { IfOk result.text (λ t. IsRace (kept_at (K.seen desk.keeper))
+        (kept_at (K.seen result.desk.keeper)) desk.board.state scripts.now result.desk.board.state t) }
     // If memory ran out, some of the lines were answered. After them at most one tick was made.
-    ensures part { IsRaceInPart (K.seen desk.keeper).health.faults (K.seen result.desk.keeper).health.faults
+    ensures part { IsRaceInPart (kept_at (K.seen desk.keeper)) (kept_at (K.seen result.desk.keeper))
         desk.board.state scripts.now result.desk.board.state }
     ensures on { DeskGoesOn (desk_seen K.seen B.seen desk) (desk_seen K.seen B.seen result.desk) }
 {

@@ -8,7 +8,8 @@ ghost use Rattle.keeper.specs.Account.{AddsCommit, FailedCommit};
 ghost use Rattle.keeper.specs.Kept.{Leads};
 ghost use Rattle.keeper.specs.Seen.{KeeperGoesOn, kept_rows};
 ghost use Rattle.keeper.specs.declared.keeping.KeepFault.TheVariants.{Failed as KeepFailed};
-ghost use Rattle.desk.specs.Keeping.{asked_if, kept_or, CountedOnce, KeptUnless};
+ghost use Rattle.desk.specs.Keeping.{Asks, asked_if, kept_or, CountedOnce, KeptUnless};
+ghost use Rattle.desk_state.specs.Legal.{IsHistory};
 ghost use Rattle.desk.specs.Saved.{DoneUnless};
 ghost use Rattle.desk.specs.Seen.{desk_seen, StepGoesOn};
 ghost use Rattle.desk.specs.Settled.{stepped_by, IsSettled};
@@ -155,6 +156,8 @@ pub(crate) fn settle<K: Keeper, B: Bell>(
     requires room { desk.old.board.room ≡ Some prepared }
     requires keeps { KeepsRows desk.old.board.state prepared }
     requires shown { IfSome prepared.reply ReplyHasMoment }
+    requires history { IsHistory desk.old.board.opening desk.old.board.state }
+    requires next { IsHistory desk.old.board.opening (installed prepared desk.old.board.state) }
     ensures settled { IfOk result (λ r. IsSettled r desk.new.board.state
         (kept_or r.fault desk.old.board.state (stepped_by desk.old.board.state prepared))) }
     ensures shown { IfOk result (λ r. IfSome r.reply ReplyHasMoment) }
@@ -166,8 +169,8 @@ pub(crate) fn settle<K: Keeper, B: Bell>(
     ensures count { IfOk result (λ r. CountedOnce (K.seen desk.old.keeper).health.faults r.fault
         (K.seen desk.new.keeper).health.faults) }
     ensures told { IfOk result (λ r. IfSome r.fault (λ n. r.reply ≡ Some (Reply.Refused (Refusal.Unkept n)))) }
-    ensures asked { (K.seen desk.new.keeper).commits ≡ asked_if (is_some prepared.event)
-        (K.seen desk.old.keeper).commits }
+    ensures asks { IfOk result (λ r. Asks (K.seen desk.old.keeper) (K.seen desk.new.keeper)
+        (asked_if (is_some prepared.event) r.fault)) }
     // A step without changes leaves the keeper untouched.
     ensures still { is_some prepared.event ≡ false → desk.new.keeper ≡ desk.old.keeper }
 {

@@ -1,11 +1,11 @@
 -- An item of a script that is answered on the board, and what was done of it when memory ran out.
-use Rattle.std.proofs.Common.{◌≡◌, ℕ, ◌≤◌, inl, List, [], ◌∷◌, ◌++◌, append_assoc, refl, sym, ap, ◌∙◌, subst}
+use Rattle.std.proofs.Common.{◌≡◌, ℕ, inl, List, [], ◌∷◌, ◌++◌, append_assoc, refl, sym, ap, ◌∙◌, subst}
 use Rattle.alerts.specs.Ringing.{Hung}
 use Rattle.alerts.specs.declared.notices.Notice.{Notice}
-use Rattle.desk.proofs.Choices.{counted_on}
+use Rattle.desk.proofs.Choices.{KeptBy, counted_on}
 use Rattle.desk.proofs.InPart.{after_next, at_next, none_so_far}
 use Rattle.desk.specs.InPart.{AreGivenInPart, MayHaveBegun, MayHaveBegunNext}
-use Rattle.desk.specs.Keeping.{AreGivenSoFar, Choice, Counted, Given, after_with, item_with}
+use Rattle.desk.specs.Keeping.{AreGivenSoFar, Choice, Given, KeptAt, KeptLater, after_with, asked_item, item_with}
 use Rattle.desk.specs.Run.{said_text}
 use Rattle.desk.specs.Seen.{DeskSeen}
 use Rattle.desk.specs.Settled.{AnswersItem}
@@ -43,6 +43,7 @@ answered_under roster i old new before after a reply ticked called askable given
     record {
       choice = given.choice;
       counted = given.counted;
+      asks = given.asks;
       state = given.is.its_state;
       says = says ∙ ap (λ (o : Outcome). said_text o.said) given.is.its_outcome;
       heard = λ told bells since.
@@ -52,14 +53,14 @@ answered_under roster i old new before after a reply ticked called askable given
     }
 
 -- memory ran out at an item
-pub begun_alone : (before after : ℕ) (s t : State) (i : Item) → before ≤ after → MayHaveBegun 1 i s t → AreGivenInPart 1 before after s (i ∷ []) t
+pub begun_alone : (before after : KeptAt) (s t : State) (i : Item) → KeptLater before after → MayHaveBegun 1 i s t → AreGivenInPart 1 before after s (i ∷ []) t
 begun_alone before after s t i over begun =
     at_next 1 before before after s (i ∷ []) s t (i ∷ []) [] i [] refl (none_so_far 1 before s (i ∷ []) refl) over begun
 
 -- an item was answered, and memory ran out then
-pub answered_alone : (before after : ℕ) (s t : State) (i : Item) (c : Choice) → Counted before (c ∷ []) after → t ≡ (item_with c 1 s i).state → AreGivenInPart 1 before after s (i ∷ []) t
-answered_alone before after s t i c counted state =
-    after_next 1 before before after s (i ∷ []) s t (i ∷ []) [] i [] c refl (none_so_far 1 before s (i ∷ []) refl) counted state
+pub answered_alone : (before after : KeptAt) (s t : State) (i : Item) (c : Choice) → KeptBy before after c (asked_item c 1 s i) → t ≡ (item_with c 1 s i).state → AreGivenInPart 1 before after s (i ∷ []) t
+answered_alone before after s t i c kept state =
+    after_next 1 before before after s (i ∷ []) s t (i ∷ []) [] i [] c refl (none_so_far 1 before s (i ∷ []) refl) kept state
 
 -- ---- one line after others
 
@@ -70,7 +71,7 @@ begun_more lane [] (kind.Bad fault ∷ rest) s t begun = begun
 begun_more lane [] (kind.Call at call ∷ rest) s t begun = inl begun
 
 -- memory ran out at one part of the items that were left
-pub in_part_on : (lane before middle after : ℕ) (s : State) (items : List Item) (t u : State) (left mine rest : List Item) (made : List Outcome) → left ≡ mine ++ rest
+pub in_part_on : (lane : ℕ) (before middle after : KeptAt) (s : State) (items : List Item) (t u : State) (left mine rest : List Item) (made : List Outcome) → left ≡ mine ++ rest
     → AreGivenSoFar lane before middle s items t left made → AreGivenInPart lane middle after t mine u → AreGivenInPart lane before after s items u
 in_part_on lane before middle after s items t u left mine rest made is so_far part = record {
   front = so_far.front ++ part.front;
@@ -80,7 +81,10 @@ in_part_on lane before middle after s items t u left mine rest made is so_far pa
       so_far.whole
       ∙ ap (λ is. so_far.front ++ is) (is ∙ ap (λ is. is ++ rest) part.whole ∙ append_assoc part.front part.left rest)
       ∙ sym (append_assoc so_far.front part.front (part.left ++ rest));
-  counted = counted_on before so_far.choices part.choices middle after so_far.counted part.counted;
+  kept = part.kept;
+  counted = counted_on before.faults so_far.choices part.choices middle.faults part.kept.faults so_far.counted part.counted;
+  stored = part.stored ∙ so_far.stored part.front part.choices;
+  later = part.later;
   state =
       subst (λ (v : State). MayHaveBegunNext lane (part.left ++ rest) v u) (so_far.state part.front part.choices)
       (begun_more lane part.left rest (after_with lane t part.front part.choices) u part.state);

@@ -5,8 +5,8 @@ use Rattle.std.specs.Prelude.{slice_get}
 use Rattle.std.proofs.lemmas.Bool.Decides.{nat_tests}
 use Rattle.desk.proofs.Choices.{quiet_after, quiet_outcomes, rise_within}
 use Rattle.desk.proofs.Positions.{one_history}
-use Rattle.desk.specs.Keeping.{AreGiven, Choice, Counted, Rise, after_with, item_with, no_choice, numbers_of, outcomes_with}
-use Rattle.desk.specs.Merge.{AreMerged, Event, IsAmong, LaneHas, Turn, after_turns, choices_of, event_of, events_of, is_done, of_lane}
+use Rattle.desk.specs.Keeping.{AreGiven, Choice, Counted, KeptAt, Rise, after_with, asked_all, asked_item, item_with, no_choice, numbers_of, outcomes_with}
+use Rattle.desk.specs.Merge.{AreMerged, Event, IsAmong, LaneHas, Turn, after_turns, asked_in, choices_of, event_of, events_of, is_done, of_lane}
 use Rattle.desk.specs.Positions.{AreOneHistory}
 use Rattle.desk.specs.Run.{LaneShown, lane_with}
 use Rattle.desk_state.specs.Lanes.{after_items, answer_item, outcomes}
@@ -66,6 +66,12 @@ after_turns_of s (i ∷ items) [] =
     ∙ sym (none_after (item_with no_choice 1 s i).state items)
     ∙ ap (λ (u : State). after_items 1 u items) (quiet_state s i)
 after_turns_of s (i ∷ items) (c ∷ cs) = after_turns_of (item_with c 1 s i).state items cs
+
+asked_of_turns : (s : State) (items : List Item) (choices : List Choice) → asked_in s (turns_of items choices) ≡ asked_all 1 s items choices
+unfolding turns_of
+asked_of_turns s [] choices = refl
+asked_of_turns s (i ∷ items) [] = ap (λ bs. asked_item no_choice 1 s i ++ bs) (asked_of_turns (item_with no_choice 1 s i).state items [])
+asked_of_turns s (i ∷ items) (c ∷ cs) = ap (λ bs. asked_item c 1 s i ++ bs) (asked_of_turns (item_with c 1 s i).state items cs)
 
 outcomes_of_turns : (s : State) (items : List Item) (choices : List Choice) → map (λ e. e.outcome) (events_of s (turns_of items choices)) ≡ outcomes_with 1 s items choices
 unfolding turns_of
@@ -135,11 +141,12 @@ each_has s items choices zero lane at =
     subst (λ (l : LaneShown). LaneHas (events_of s (turns_of items choices)) 1 l) same (lane_has s items choices)
 each_has s items choices (suc n) lane at = absurd (cc)
 
-one_lane : (before after : ℕ) (s : State) (items : List Item) (choices : List Choice) (t : State) → Counted before choices after → t ≡ after_with 1 s items choices → AllByRecursion IsAskable items
-    → AreMerged before after s (lane_with items (outcomes_with 1 s items choices) ∷ []) t
-one_lane before after s items choices t counted state askable = record {
+one_lane : (before after : KeptAt) (s : State) (items : List Item) (choices : List Choice) (t : State) → Counted before.faults choices after.faults → after.stored ≡ before.stored ++ asked_all 1 s items choices
+    → t ≡ after_with 1 s items choices → AllByRecursion IsAskable items → AreMerged before after s (lane_with items (outcomes_with 1 s items choices) ∷ []) t
+one_lane before after s items choices t counted stored state askable = record {
   turns = turns_of items choices;
-  counted = counted_turns items choices before after counted;
+  counted = counted_turns items choices before.faults after.faults counted;
+  stored = stored ∙ ap (λ bs. before.stored ++ bs) (sym (asked_of_turns s items choices));
   state = state ∙ sym (after_turns_of s items choices);
   among = among_one items choices;
   askable = all_askable items choices askable;
@@ -153,9 +160,9 @@ lane_done : (s : State) (items : List Item) (choices : List Choice) → list_all
 lane_done s items choices = rw (done_by (length (outcomes_with 1 s items choices)) (length items) (count_outcomes s items choices)) refl
 
 -- the outcomes of items that are given in lane 1 are in the board's one history
-pub one_lane_history : (before after : ℕ) (opening s : State) (items : List Item) (t : State) (made : List Outcome) → IsBoard opening s → AllByRecursion IsAskable items → AreGiven 1 before after s items t made
-    → AreOneHistory before after s (lane_with items made ∷ []) t
+pub one_lane_history : (before after : KeptAt) (opening s : State) (items : List Item) (t : State) (made : List Outcome) → IsBoard opening s → AllByRecursion IsAskable items → AreGiven 1 before after s items t made
+    → AreOneHistory before.faults after.faults s (lane_with items made ∷ []) t
 one_lane_history before after opening s items t made board askable given =
-    subst (λ os. AreOneHistory before after s (lane_with items os ∷ []) t) (sym given.outcomes)
+    subst (λ os. AreOneHistory before.faults after.faults s (lane_with items os ∷ []) t) (sym given.outcomes)
     (one_history before after opening s t (lane_with items (outcomes_with 1 s items given.choices) ∷ [])
-    (one_lane before after s items given.choices t given.counted given.state askable) board (lane_done s items given.choices))
+    (one_lane before after s items given.choices t given.counted given.stored given.state askable) board (lane_done s items given.choices))

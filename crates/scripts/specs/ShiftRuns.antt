@@ -5,7 +5,7 @@ use Rattle.alerts.specs.Ringing.{Hung}
 use Rattle.alerts.specs.declared.notices.Notice.{Notice}
 use Rattle.desk.specs.Heard.{told_by_all}
 use Rattle.desk.specs.InPart.{AreGivenInPart}
-use Rattle.desk.specs.Keeping.{AreGiven, Choice, Given, item_with, no_choice}
+use Rattle.desk.specs.Keeping.{AreGiven, Choice, Given, KeptAt, item_with, no_choice}
 use Rattle.desk.specs.Positions.{AreOneHistory}
 use Rattle.desk.specs.Run.{lane_with, lines_of, outcome_text}
 use Rattle.desk_state.specs.Lanes.{after_items, outcomes}
@@ -68,16 +68,17 @@ shifts_of s script = taken_all s.tables (first_roster s.tables) (lines_of script
 abbrev pub last_roster : State → List ℕ → List RosterLine
 last_roster s script = roster_after_all s.tables (first_roster s.tables) (lines_of script)
 
--- A run of a shift script from one state to another, between two counts of the keeper's faults. The items among its
--- lines are answered in lane 1, in their order, and the text has their outcomes and all other replies. The outcomes of
--- the items, and of nothing else, form the board's one history from the first state to the last.
-pub record IsShiftRun (before after : ℕ) (s : State) (script : List ℕ) (t : State) (text : List ℕ) : Type 0 where
+-- A run of a shift script from one state to another, between two moments of the keeper. The items among its lines are
+-- answered in lane 1, in their order, and the text has their outcomes and all other replies. The outcomes of the items,
+-- and of nothing else, form the board's one history from the first state to the last. The keeper's commits are those of
+-- the items.
+pub record IsShiftRun (before after : KeptAt) (s : State) (script : List ℕ) (t : State) (text : List ℕ) : Type 0 where
   pub made : List Outcome
   pub given : AreGiven 1 before after s (items_in (shifts_of s script)) t made
   pub says : text ≡ shift_text (shifts_of s script) made t (last_roster s script)
-  pub history : AreOneHistory before after s (lane_with (items_in (shifts_of s script)) made ∷ []) t
+  pub history : AreOneHistory before.faults after.faults s (lane_with (items_in (shifts_of s script)) made ∷ []) t
   -- if the keeper's count didn't rise, every step was stored
-  pub steady : after ≡ before
+  pub steady : after.faults ≡ before.faults
       → text ≡ shift_text (shifts_of s script) (outcomes 1 s (items_in (shifts_of s script))) (after_items 1 s (items_in (shifts_of s script))) (last_roster s script)
 
 -- Bells that were the `old` ones have received exactly the notices of the desks at which their persons sat when the
@@ -87,13 +88,13 @@ pub record AreRungAtDesks (opening s : State) (script : List ℕ) (choices : Lis
   pub tells : told_by_all opening t.entries ≡ told_by_all opening s.entries ++ notices_in (told_with s (placed_in (shifts_of s script)) choices)
 
 -- A run of a shift script on a desk with this opening state, and what the bells have received.
-pub record IsSeatedRun (opening : State) (before after : ℕ) (s : State) (script : List ℕ) (t : State) (text : List ℕ) (old new : List Hung) : Type 0 where
+pub record IsSeatedRun (opening : State) (before after : KeptAt) (s : State) (script : List ℕ) (t : State) (text : List ℕ) (old new : List Hung) : Type 0 where
   pub run : IsShiftRun before after s script t text
   pub bells : AreRungAtDesks opening s script run.given.choices t old new
 
 -- Memory ran out in a run of a shift script. A prefix of its items was answered. Of the next item at most the tick was
 -- made.
-abbrev pub IsShiftRunInPart : ℕ → ℕ → State → List ℕ → State → Type 0
+abbrev pub IsShiftRunInPart : KeptAt → KeptAt → State → List ℕ → State → Type 0
 IsShiftRunInPart before after s script t = AreGivenInPart 1 before after s (items_in (shifts_of s script)) t
 
 -- ---- who sits at each desk

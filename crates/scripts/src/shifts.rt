@@ -1,6 +1,7 @@
 ghost use Rattle.std.specs.Prelude.{◌≡◌, ◌++◌, [], ◌∷◌, List, codes, IfOk, OnErr, OnOk};
 ghost use Rattle.alerts.specs.Ringing.{Hung, hung_all};
 ghost use Rattle.desk.specs.InPart.{AreGivenInPart};
+ghost use Rattle.desk.specs.Keeping.{kept_at};
 ghost use Rattle.desk.specs.Seen.{desk_seen, DeskGoesOn};
 ghost use Rattle.desk_state.specs.Repeats.{IsAskable};
 ghost use Rattle.desk_state.specs.Texts.{closing};
@@ -50,8 +51,8 @@ fn answer_on_board<K: Keeper, B: Bell, L: Ledger>(
     requires { IsAskable item.now }
     ensures answered { IfOk result (IsAnsweredUnder roster.now item.now (desk_seen K.seen B.seen desk.old)
         (desk_seen K.seen B.seen desk.new) (hung_all B.seen ringer.old) (hung_all B.seen ringer.new)) }
-    ensures err { OnErr result (AreGivenInPart 1 (K.seen desk.old.keeper).health.faults
-        (K.seen desk.new.keeper).health.faults desk.old.board.state (item.now ∷ []) desk.new.board.state) }
+    ensures err { OnErr result (AreGivenInPart 1 (kept_at (K.seen desk.old.keeper))
+        (kept_at (K.seen desk.new.keeper)) desk.old.board.state (item.now ∷ []) desk.new.board.state) }
     ensures on { DeskGoesOn (desk_seen K.seen B.seen desk.old) (desk_seen K.seen B.seen desk.new) }
     ensures hears { HearOn (hung_all B.seen ringer.old) (hung_all B.seen ringer.new) }
 {
@@ -76,8 +77,8 @@ fn answer_routed<K: Keeper, B: Bell, L: Ledger>(
     requires { CanBeTaken routed }
     ensures answered { IfOk result (IsAnsweredAs routed roster.now (desk_seen K.seen B.seen desk.old)
         (desk_seen K.seen B.seen desk.new) (hung_all B.seen ringer.old) (hung_all B.seen ringer.new)) }
-    ensures err { OnErr result (AreGivenInPart 1 (K.seen desk.old.keeper).health.faults
-        (K.seen desk.new.keeper).health.faults desk.old.board.state (items_of routed) desk.new.board.state) }
+    ensures err { OnErr result (AreGivenInPart 1 (kept_at (K.seen desk.old.keeper))
+        (kept_at (K.seen desk.new.keeper)) desk.old.board.state (items_of routed) desk.new.board.state) }
     ensures on { DeskGoesOn (desk_seen K.seen B.seen desk.old) (desk_seen K.seen B.seen desk.new) }
     ensures hears { HearOn (hung_all B.seen ringer.old) (hung_all B.seen ringer.new) }
 {
@@ -102,8 +103,8 @@ fn answer_line<K: Keeper, B: Bell, L: Ledger>(
         (desk_seen K.seen B.seen desk.new) (hung_all B.seen ringer.old) (hung_all B.seen ringer.new)) }
     ensures roster { OnOk result (roster.new ≡ roster_after desk.old.board.state.tables roster.old line.now) }
     ensures desks { desks_in roster.new ≡ desks_in roster.old }
-    ensures err { OnErr result (AreGivenInPart 1 (K.seen desk.old.keeper).health.faults
-        (K.seen desk.new.keeper).health.faults desk.old.board.state
+    ensures err { OnErr result (AreGivenInPart 1 (kept_at (K.seen desk.old.keeper))
+        (kept_at (K.seen desk.new.keeper)) desk.old.board.state
         (items_of (routes.route desk.old.board.state.tables roster.old line.now)) desk.new.board.state) }
     ensures on { DeskGoesOn (desk_seen K.seen B.seen desk.old) (desk_seen K.seen B.seen desk.new) }
     ensures hears { HearOn (hung_all B.seen ringer.old) (hung_all B.seen ringer.new) }
@@ -129,8 +130,8 @@ fn answer_passed<K: Keeper, B: Bell, G: Gate, L: Ledger>(
         (desk_seen K.seen B.seen desk.new) (hung_all B.seen ringer.old) (hung_all B.seen ringer.new)) }
     ensures roster { OnOk result (roster.new ≡ roster_after desk.old.board.state.tables roster.old line.now) }
     ensures desks { desks_in roster.new ≡ desks_in roster.old }
-    ensures err { OnErr result (AreGivenInPart 1 (K.seen desk.old.keeper).health.faults
-        (K.seen desk.new.keeper).health.faults desk.old.board.state
+    ensures err { OnErr result (AreGivenInPart 1 (kept_at (K.seen desk.old.keeper))
+        (kept_at (K.seen desk.new.keeper)) desk.old.board.state
         (items_of (routes.route desk.old.board.state.tables roster.old line.now)) desk.new.board.state) }
     ensures on { DeskGoesOn (desk_seen K.seen B.seen desk.old) (desk_seen K.seen B.seen desk.new) }
     ensures hears { HearOn (hung_all B.seen ringer.old) (hung_all B.seen ringer.new) }
@@ -158,14 +159,14 @@ fn replies_to<K: Keeper, B: Bell, G: Gate, L: Ledger>(
     steps: &mut Steps<L>,
 ) -> Result<Vec<u8>, OutOfMemory>
     requires { desks_in roster.old ≡ desks_of desk.old.board.state.tables }
-    ensures replied { IfOk result (λ v. AreReplied (K.seen desk.old.keeper).health.faults
-        (K.seen desk.new.keeper).health.faults desk.old.board.state
+    ensures replied { IfOk result (λ v. AreReplied (kept_at (K.seen desk.old.keeper))
+        (kept_at (K.seen desk.new.keeper)) desk.old.board.state
         (taken_all desk.old.board.state.tables roster.old lines.now) desk.new.board.state (hung_all B.seen ringer.old) (hung_all B.seen ringer.new)
         v.items) }
     ensures roster { OnOk result (roster.new
         ≡ roster_after_all desk.old.board.state.tables roster.old lines.now) }
-    ensures err { OnErr result (AreGivenInPart 1 (K.seen desk.old.keeper).health.faults
-        (K.seen desk.new.keeper).health.faults desk.old.board.state
+    ensures err { OnErr result (AreGivenInPart 1 (kept_at (K.seen desk.old.keeper))
+        (kept_at (K.seen desk.new.keeper)) desk.old.board.state
         (items_in (taken_all desk.old.board.state.tables roster.old lines.now)) desk.new.board.state) }
     ensures on { DeskGoesOn (desk_seen K.seen B.seen desk.old) (desk_seen K.seen B.seen desk.new) }
     ensures hears { HaveHeardSome (hung_all B.seen ringer.old) (hung_all B.seen ringer.new) }
@@ -213,11 +214,11 @@ fn text_of_shifts<K: Keeper, B: Bell, G: Gate, L: Ledger>(
     gate: &G,
     steps: &mut Steps<L>,
 ) -> Result<Vec<u8>, OutOfMemory>
-    ensures run { IfOk result (λ v. IsShifts (K.seen desk.old.keeper).health.faults
-        (K.seen desk.new.keeper).health.faults desk.old.board.state script.now desk.new.board.state v.items
+    ensures run { IfOk result (λ v. IsShifts (kept_at (K.seen desk.old.keeper))
+        (kept_at (K.seen desk.new.keeper)) desk.old.board.state script.now desk.new.board.state v.items
         (hung_all B.seen ringer.old) (hung_all B.seen ringer.new)) }
-    ensures err { OnErr result (IsShiftRunInPart (K.seen desk.old.keeper).health.faults
-        (K.seen desk.new.keeper).health.faults desk.old.board.state script.now desk.new.board.state) }
+    ensures err { OnErr result (IsShiftRunInPart (kept_at (K.seen desk.old.keeper))
+        (kept_at (K.seen desk.new.keeper)) desk.old.board.state script.now desk.new.board.state) }
     ensures on { DeskGoesOn (desk_seen K.seen B.seen desk.old) (desk_seen K.seen B.seen desk.new) }
     ensures hears { HaveHeardSome (hung_all B.seen ringer.old) (hung_all B.seen ringer.new) }
 {
@@ -247,12 +248,12 @@ pub fn shift_text<K: Keeper, B: Bell, G: Gate, L: Ledger>(
     // The items are exactly those that the tables and the script make. Their outcomes form the board's one history, and
     // the text has them and all other replies in the order of the script. The bells have received exactly the notices
     // of the desks at which their persons sat, out of all notices of the history.
-    ensures run { IfOk result (λ v. IsSeatedRun desk.old.board.opening (K.seen desk.old.keeper).health.faults
-        (K.seen desk.new.keeper).health.faults desk.old.board.state script.now desk.new.board.state v.items
+    ensures run { IfOk result (λ v. IsSeatedRun desk.old.board.opening (kept_at (K.seen desk.old.keeper))
+        (kept_at (K.seen desk.new.keeper)) desk.old.board.state script.now desk.new.board.state v.items
         (hung_all B.seen ringer.old) (hung_all B.seen ringer.new)) }
     // If memory runs out, a prefix of the items was answered. Of the next item at most the tick was made.
-    ensures err { OnErr result (IsShiftRunInPart (K.seen desk.old.keeper).health.faults
-        (K.seen desk.new.keeper).health.faults desk.old.board.state script.now desk.new.board.state) }
+    ensures err { OnErr result (IsShiftRunInPart (kept_at (K.seen desk.old.keeper))
+        (kept_at (K.seen desk.new.keeper)) desk.old.board.state script.now desk.new.board.state) }
     ensures on { DeskGoesOn (desk_seen K.seen B.seen desk.old) (desk_seen K.seen B.seen desk.new) }
     // Whatever the result, the bells that stay are in their order, and each that was dropped has failed.
     ensures hears { HaveHeardSome (hung_all B.seen ringer.old) (hung_all B.seen ringer.new) }

@@ -27,7 +27,6 @@ use Rattle.desk_state.specs.declared.entry.What.{What}
 use Rattle.desk_state.specs.declared.entry.What.TheVariants as what
 use Rattle.desk_time.specs.Limits.{IsMoment}
 use Rattle.ops_tables.specs.Tables.{actor_of}
-use Rattle.service.specs.Shared.{AreTakenFrom, tick_in, ticks_in}
 use Rattle.service.specs.Turns.{number_in_refusal, number_in_reply, unkept_in}
 
 -- ---- what is added
@@ -37,13 +36,9 @@ abbrev pub IsTickTo : ℕ → What → Type 0
 IsTickTo at (what.Tick to) = to ≡ at
 IsTickTo at (what.Asked call reply) = Unit {0}
 
--- The history goes on with entries of the lane, of which ticks are to that moment. Each takes one of these answers.
-pub record Grows (lane at : ℕ) (asked : List (Option ℕ)) (s t : State) : Type 0 where
-  pub more : List Entry
-  pub grown : t.entries ≡ s.entries ++ more
-  pub lanes : AllByRecursion (λ e. e.lane ≡ lane) more
-  pub ticks : AllByRecursion (λ e. IsTickTo at e.what) more
-  pub taken : AreTakenFrom asked (ticks_in more)
+abbrev pub IsCall : What → Type 0
+IsCall (what.Tick to) = ⊥
+IsCall (what.Asked call reply) = Unit {0}
 
 -- at most the tick to that moment, in the lane
 pub record Ticks (lane at : ℕ) (s t : State) : Type 0 where
@@ -53,123 +48,127 @@ pub record Ticks (lane at : ℕ) (s t : State) : Type 0 where
   pub few : length more ≤ 1
   pub only : AllByRecursion (λ e. e.what ≡ what.Tick at) more
 
-stays : (lane at : ℕ) (asked : List (Option ℕ)) (s : State) → Grows lane at asked s s
-stays lane at asked s = record { more = []; grown = sym (append-nil s.entries); lanes = tt; ticks = tt; taken = tt }
+-- at most an accepted call, in the lane
+pub record Calls (lane : ℕ) (s t : State) : Type 0 where
+  pub more : List Entry
+  pub grown : t.entries ≡ s.entries ++ more
+  pub lanes : AllByRecursion (λ e. e.lane ≡ lane) more
+  pub few : length more ≤ 1
+  pub only : AllByRecursion (λ e. IsCall e.what) more
+
+-- the one after the other
+pub record Grows (lane at : ℕ) (s t : State) : Type 0 where
+  pub middle : State
+  pub ticked : Ticks lane at s middle
+  pub called : Calls lane middle t
 
 pub all_both : (P : Entry → Type 0) (xs ys : List Entry) → AllByRecursion P xs → AllByRecursion P ys → AllByRecursion P (xs ++ ys)
 all_both P [] ys one two = two
 all_both P (x ∷ xs) ys one two = (one.0, all_both P xs ys one.1 two)
 
--- ---- the clock's answers
-
-taken_later : (front answers : List (Option ℕ)) (moments : List ℕ) → AreTakenFrom answers moments → AreTakenFrom (front ++ answers) moments
-taken_later front answers [] taken = tt
-taken_later front answers (at ∷ moments) taken =
-    (front ++ taken.0, taken.1, ap (λ l. front ++ l) taken.2 ∙ sym (append_assoc front taken.0 (Some at ∷ taken.1)), taken.3)
-
--- moments of some answers, and of answers after these
-taken_both : (asked later : List (Option ℕ)) (ones twos : List ℕ) → AreTakenFrom asked ones → AreTakenFrom later twos → AreTakenFrom (asked ++ later) (ones ++ twos)
-taken_both asked later [] twos one two = taken_later asked later twos two
-taken_both asked later (at ∷ ones) twos one two =
-    (one.0, one.1 ++ later, ap (λ l. l ++ later) one.2 ∙ append_assoc one.0 (Some at ∷ one.1) later, taken_both one.1 later ones twos one.3 two)
-
-ticks_in-append : (xs ys : List Entry) → ticks_in (xs ++ ys) ≡ ticks_in xs ++ ticks_in ys
-ticks_in-append [] ys = refl
-ticks_in-append (x ∷ xs) ys = ap (λ l. tick_in x.what ++ l) (ticks_in-append xs ys) ∙ sym (append_assoc (tick_in x.what) (ticks_in xs) (ticks_in ys))
-
-pub taken_on : (asked later : List (Option ℕ)) (xs ys : List Entry) → AreTakenFrom asked (ticks_in xs) → AreTakenFrom later (ticks_in ys) → AreTakenFrom (asked ++ later) (ticks_in (xs ++ ys))
-taken_on asked later xs ys one two = subst (AreTakenFrom (asked ++ later)) (sym (ticks_in-append xs ys)) (taken_both asked later (ticks_in xs) (ticks_in ys) one two)
-
--- at most one tick takes the one answer
-pub taken_once : (at : ℕ) (es : List Entry) → length es ≤ 1 → AllByRecursion (λ e. e.what ≡ what.Tick at) es → AreTakenFrom (Some at ∷ []) (ticks_in es)
-taken_once at [] few only = tt
-taken_once at (e ∷ []) few only =
-    let taken : AreTakenFrom (Some at ∷ []) (at ∷ []) = ([], [], refl, tt) in subst (λ (w : What). AreTakenFrom (Some at ∷ []) (tick_in w ++ [])) (sym only.0) taken
-taken_once at (e ∷ f ∷ es) few only = absurd (omega (arith, few))
-
-grows_on : (lane at : ℕ) (asked later : List (Option ℕ)) (s t u : State) → Grows lane at asked s t → Grows lane at later t u → Grows lane at (asked ++ later) s u
-grows_on lane at asked later s t u one two = record {
-  more = one.more ++ two.more;
-  grown = two.grown ∙ (ap (λ es. es ++ two.more) one.grown ∙ append_assoc s.entries one.more two.more);
-  lanes = all_both (λ e. e.lane ≡ lane) one.more two.more one.lanes two.lanes;
-  ticks = all_both (λ e. IsTickTo at e.what) one.more two.more one.ticks two.ticks;
-  taken = taken_on asked later one.more two.more one.taken two.taken;
-}
-
-ticks_by : (full : Bool) (lane at : ℕ) (s : State) → Ticks lane at s (tick_unless full s lane at).state
-ticks_by true lane at s = record { more = []; grown = sym (append-nil s.entries); lanes = tt; few = omega arith; only = tt }
-ticks_by false lane at s = record { more = record { lane = lane; what = what.Tick at } ∷ []; grown = refl; lanes = (refl, tt); few = omega arith; only = (refl, tt) }
-
-tick_ticks : (lane at : ℕ) (s : State) → Ticks lane at s (tick_to s lane at).state
-unfolding tick_to
-tick_ticks lane at s = ticks_by (is_full s) lane at s
-
 pub ticks_to : (at : ℕ) (es : List Entry) → AllByRecursion (λ e. e.what ≡ what.Tick at) es → AllByRecursion (λ e. IsTickTo at e.what) es
 ticks_to at [] all = tt
 ticks_to at (e ∷ es) all = (subst (IsTickTo at) (sym all.0) refl, ticks_to at es all.1)
 
-ticks_grow : (lane at : ℕ) (s t : State) → Ticks lane at s t → Grows lane at (Some at ∷ []) s t
-ticks_grow lane at s t ticks =
-    record { more = ticks.more; grown = ticks.grown; lanes = ticks.lanes; ticks = ticks_to at ticks.more ticks.only; taken = taken_once at ticks.more ticks.few ticks.only }
+call_to : (at : ℕ) (w : What) → IsCall w → IsTickTo at w
+call_to at (what.Tick to) is = absurd is
+call_to at (what.Asked call reply) is = tt
 
-entered_grows : (full : Bool) (lane at : ℕ) (asked : List (Option ℕ)) (s : State) (call : Call) (made : DoneType) (effect : Effect) → Grows lane at asked s (enter full s lane call made effect).state
-entered_grows true lane at asked s call made effect = stays lane at asked s
-entered_grows false lane at asked s call made effect = record { more = _ ∷ []; grown = refl; lanes = (refl, tt); ticks = (tt, tt); taken = tt }
+calls_to : (at : ℕ) (es : List Entry) → AllByRecursion (λ e. IsCall e.what) es → AllByRecursion (λ e. IsTickTo at e.what) es
+calls_to at [] all = tt
+calls_to at (e ∷ es) all = (call_to at e.what all.0, calls_to at es all.1)
 
-finished_grows : (decision : Result Decision Refusal) (lane at : ℕ) (asked : List (Option ℕ)) (s : State) (call : Call) → Grows lane at asked s (finish s lane call decision).state
-finished_grows (Err why) lane at asked s call = stays lane at asked s
-finished_grows (Ok (Show reply)) lane at asked s call = stays lane at asked s
-finished_grows (Ok (Do made effect)) lane at asked s call = entered_grows (is_full_for s call.ask) lane at asked s call made effect
+module _ {lane at : ℕ} {s t : State} (g : Grows lane at s t) where
+  -- the entries of both
+  abbrev pub both_of : List Entry
+  both_of = g.ticked.more ++ g.called.more
 
-done_grows : (lane at : ℕ) (asked : List (Option ℕ)) (s : State) (call : Call) → Grows lane at asked s (do_call s lane call).state
+  pub both_grown : t.entries ≡ s.entries ++ both_of
+  both_grown = g.called.grown ∙ (ap (λ es. es ++ g.called.more) g.ticked.grown ∙ append_assoc s.entries g.ticked.more g.called.more)
+
+  pub both_lanes : AllByRecursion (λ e. e.lane ≡ lane) both_of
+  both_lanes = all_both (λ e. e.lane ≡ lane) g.ticked.more g.called.more g.ticked.lanes g.called.lanes
+
+  pub both_timed : AllByRecursion (λ e. IsTickTo at e.what) both_of
+  both_timed = all_both (λ e. IsTickTo at e.what) g.ticked.more g.called.more (ticks_to at g.ticked.more g.ticked.only) (calls_to at g.called.more g.called.only)
+
+-- ---- the tick
+
+pub no_tick : (lane at : ℕ) (s : State) → Ticks lane at s s
+no_tick lane at s = record { more = []; grown = sym (append-nil s.entries); lanes = tt; few = omega arith; only = tt }
+
+ticks_by : (full : Bool) (lane at : ℕ) (s : State) → Ticks lane at s (tick_unless full s lane at).state
+ticks_by true lane at s = no_tick lane at s
+ticks_by false lane at s = record { more = record { lane = lane; what = what.Tick at } ∷ []; grown = refl; lanes = (refl, tt); few = omega arith; only = (refl, tt) }
+
+pub tick_ticks : (lane at : ℕ) (s : State) → Ticks lane at s (tick_to s lane at).state
+unfolding tick_to
+tick_ticks lane at s = ticks_by (is_full s) lane at s
+
+pub tick_grows : (lane at : ℕ) (s t : State) → MayHaveTicked lane at s t → Ticks lane at s t
+tick_grows lane at s t ticked = ⊎_elim
+    (λ same. subst (Ticks lane at s) (sym same) (no_tick lane at s))
+    (λ is. subst (Ticks lane at s) (sym is.1) (tick_ticks lane at s))
+    ticked
+
+-- ---- the call
+
+no_call : (lane : ℕ) (s : State) → Calls lane s s
+no_call lane s = record { more = []; grown = sym (append-nil s.entries); lanes = tt; few = omega arith; only = tt }
+
+entered_calls : (full : Bool) (lane : ℕ) (s : State) (call : Call) (made : DoneType) (effect : Effect) → Calls lane s (enter full s lane call made effect).state
+entered_calls true lane s call made effect = no_call lane s
+entered_calls false lane s call made effect = record { more = _ ∷ []; grown = refl; lanes = (refl, tt); few = omega arith; only = (tt, tt) }
+
+finished_calls : (decision : Result Decision Refusal) (lane : ℕ) (s : State) (call : Call) → Calls lane s (finish s lane call decision).state
+finished_calls (Err why) lane s call = no_call lane s
+finished_calls (Ok (Show reply)) lane s call = no_call lane s
+finished_calls (Ok (Do made effect)) lane s call = entered_calls (is_full_for s call.ask) lane s call made effect
+
+done_calls : (lane : ℕ) (s : State) (call : Call) → Calls lane s (do_call s lane call).state
 unfolding do_call
-done_grows lane at asked s call = finished_grows (decide s call) lane at asked s call
+done_calls lane s call = finished_calls (decide s call) lane s call
 
-unless_grows : (why : Option Refusal) (lane at : ℕ) (asked : List (Option ℕ)) (s : State) (call : Call) → Grows lane at asked s (do_unless why s lane call).state
-unless_grows None lane at asked s call = done_grows lane at asked s call
-unless_grows (Some why) lane at asked s call = stays lane at asked s
+unless_calls : (why : Option Refusal) (lane : ℕ) (s : State) (call : Call) → Calls lane s (do_unless why s lane call).state
+unless_calls None lane s call = done_calls lane s call
+unless_calls (Some why) lane s call = no_call lane s
 
-called_grows : (lane at : ℕ) (asked : List (Option ℕ)) (s : State) (call : Call) → Grows lane at asked s (answer_call s lane call).state
+pub answered_calls : (lane : ℕ) (s : State) (call : Call) → Calls lane s (answer_call s lane call).state
 unfolding answer_call
-called_grows lane at asked s call = unless_grows (mistaken (actor_of s.tables call.actor) call.key) lane at asked s call
+answered_calls lane s call = unless_calls (mistaken (actor_of s.tables call.actor) call.key) lane s call
 
 -- what holds of a state, and of the one that a step leads to, holds of the one after it, kept or not
 kept_if : (P : State → Type 0) (b : Bool) (n : ℕ) (s : State) (t : Stepped) → P s → P t.state → P (unkept_if b n s t).state
 kept_if P true n s t before after = before
 kept_if P false n s t before after = after
 
-kept_has : (P : State → Type 0) (fault : Option ℕ) (s : State) (t : Stepped) → P s → P t.state → P (kept_or fault s t).state
+pub kept_has : (P : State → Type 0) (fault : Option ℕ) (s : State) (t : Stepped) → P s → P t.state → P (kept_or fault s t).state
 kept_has P None s t before after = after
 kept_has P (Some n) s t before after = kept_if P (adds s t) n s t before after
 
-made_grows : (fault : Option ℕ) (lane at : ℕ) (asked : List (Option ℕ)) (s : State) (call : Call) → Grows lane at asked s (made_with fault lane s call).state
-made_grows fault lane at asked s call = kept_has (Grows lane at asked s) fault s (answer_call s lane call) (stays lane at asked s) (called_grows lane at asked s call)
+made_calls : (fault : Option ℕ) (lane : ℕ) (s : State) (call : Call) → Calls lane s (made_with fault lane s call).state
+made_calls fault lane s call = kept_has (Calls lane s) fault s (answer_call s lane call) (no_call lane s) (answered_calls lane s call)
 
-once_grows : (fault : Option ℕ) (lane at : ℕ) (reply : Option Reply) (s : State) (call : Call) → Grows lane at [] s (once_ticked fault lane reply s call).state
-once_grows fault lane at (Some reply) s call = stays lane at [] s
-once_grows fault lane at None s call = made_grows fault lane at [] s call
+pub once_calls : (fault : Option ℕ) (lane : ℕ) (reply : Option Reply) (s : State) (call : Call) → Calls lane s (once_ticked fault lane reply s call).state
+once_calls fault lane (Some reply) s call = no_call lane s
+once_calls fault lane None s call = made_calls fault lane s call
 
-answer_by : (later : Bool) (c : Choice) (lane : ℕ) (s : State) (at : ℕ) (call : Call) → Grows lane at (Some at ∷ []) s (made_by later c lane s at call).state
+answer_by : (later : Bool) (c : Choice) (lane : ℕ) (s : State) (at : ℕ) (call : Call) → Grows lane at s (made_by later c lane s at call).state
 answer_by true c lane s at call =
-    let t = ticked_with c.tick lane s at in
-    grows_on lane at (Some at ∷ []) [] s t.state (once_ticked c.call lane t.reply t.state call).state
-    (kept_has (Grows lane at (Some at ∷ []) s) c.tick s (tick_to s lane at) (stays lane at (Some at ∷ []) s) (ticks_grow lane at s (tick_to s lane at).state (tick_ticks lane at s)))
-    (once_grows c.call lane at t.reply t.state call)
-answer_by false c lane s at call = made_grows c.call lane at (Some at ∷ []) s call
+    let t = ticked_with c.tick lane s at in record {
+      middle = t.state;
+      ticked = kept_has (Ticks lane at s) c.tick s (tick_to s lane at) (no_tick lane at s) (tick_ticks lane at s);
+      called = once_calls c.call lane t.reply t.state call;
+    }
+answer_by false c lane s at call = record { middle = s; ticked = no_tick lane at s; called = made_calls c.call lane s call }
 
-pub answer_grows : (c : Choice) (lane : ℕ) (s : State) (at : ℕ) (call : Call) → Grows lane at (Some at ∷ []) s (answer_with c lane s at call).state
+pub answer_grows : (c : Choice) (lane : ℕ) (s : State) (at : ℕ) (call : Call) → Grows lane at s (answer_with c lane s at call).state
 unfolding answer_with
 answer_grows c lane s at call = answer_by (nat_lt s.moment at) c lane s at call
 
-pub tick_grows : (lane at : ℕ) (s t : State) → MayHaveTicked lane at s t → Ticks lane at s t
-tick_grows lane at s t ticked = ⊎_elim
-    (λ same. record { more = []; grown = ap (λ (u : State). u.entries) same ∙ sym (append-nil s.entries); lanes = tt; few = omega arith; only = tt })
-    (λ is. subst (Ticks lane at s) (sym is.1) (tick_ticks lane at s))
-    ticked
-
 -- ---- which counts are told
 
-abbrev number_in : Option Reply → Option ℕ
+abbrev pub number_in : Option Reply → Option ℕ
 number_in None = None
 number_in (Some reply) = number_in_reply reply
 
@@ -214,14 +213,14 @@ never_told s call (Some (Seen text)) refuses = refl
 never_told s call (Some (Refused why)) refuses =
     not_unkept why (λ n is. (refuses (refusal.Unkept n) (ap (λ (w : Refusal). Some (Refused w)) is)).0)
 
-call_tells_none : (opening s : State) (lane : ℕ) (call : Call) → IsBoard opening s → number_in (answer_call s lane call).reply ≡ None
+pub call_tells_none : (opening s : State) (lane : ℕ) (call : Call) → IsBoard opening s → number_in (answer_call s lane call).reply ≡ None
 call_tells_none opening s lane call board = never_told s call (answer_call s lane call).reply (refused_for s lane call (answer_call s lane call).reply board.sound board.kept refl)
 
 tick_tells_by : (full : Bool) (s : State) (lane at : ℕ) → number_in (tick_unless full s lane at).reply ≡ None
 tick_tells_by true s lane at = refl
 tick_tells_by false s lane at = refl
 
-tick_tells_none : (s : State) (lane at : ℕ) → number_in (tick_to s lane at).reply ≡ None
+pub tick_tells_none : (s : State) (lane at : ℕ) → number_in (tick_to s lane at).reply ≡ None
 unfolding tick_to
 tick_tells_none s lane at = tick_tells_by (is_full s) s lane at
 
@@ -242,7 +241,7 @@ once_tells : (tick fault : Option ℕ) (lane : ℕ) (reply : Option Reply) (s : 
 once_tells tick fault lane (Some reply) s call told none = inl told
 once_tells tick fault lane None s call told none = inr (kept_tells fault s (answer_call s lane call) none)
 
-said_tells : (reply : Option Reply) → unkept_in (said_of reply) ≡ number_in reply
+pub said_tells : (reply : Option Reply) → unkept_in (said_of reply) ≡ number_in reply
 said_tells None = refl
 said_tells (Some reply) = refl
 

@@ -6,8 +6,10 @@ pub mod TurningLaws
 pub mod ServingLaws
 pub mod EventLaws
 pub mod DeskLaws
+pub mod StoredLaws
 pub mod SharedLaws
 pub mod RunLaws
 pub mod Crossing
 pub mod MinuteLaws
 pub mod StayingLaws
+pub mod TickLaws

@@ -8,7 +8,7 @@ use Rattle.desk_net.specs.Clocks.{Dial}
 use Rattle.desk_state.specs.State.{State}
 use Rattle.service.specs.Minutes.{HasTicked, Ticks, minute_call}
 use Rattle.service.specs.Turns.{ComesOnce}
-use Rattle.service.specs.declared.misses.Event.{Event}
+use Rattle.service.specs.declared.events.Event.{Event}
 
 ticks_more : (opening : State) (dial : Option Dial) (lane : ℕ) (from mid to : List Event) (rs : List (Result Answered Unanswered)) (r : Result Answered Unanswered) → Ticks opening dial lane from rs mid → IsPrefix mid to
     → ComesOnce opening dial lane mid to minute_call r → Ticks opening dial lane from (rs ++ r ∷ []) to

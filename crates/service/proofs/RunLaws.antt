@@ -7,11 +7,11 @@ use Rattle.desk.specs.Keeping.{answer_with}
 use Rattle.desk_net.specs.Clocks.{Dial}
 use Rattle.desk_state.specs.State.{State}
 use Rattle.desk_state.specs.declared.lanes.Said.{Said}
-use Rattle.service.specs.Events.{after_entries, entered, entries_in, lane_of, miss, missed, state_at}
+use Rattle.service.specs.Events.{after_entries, entries_in, lane_of, miss, missed, state_at}
 use Rattle.connections.specs.Connections.{Answered, ClockFailed, Last, RanOut}
 use Rattle.service.specs.Runs.{ArePlaced, IsRun, Reply, added_for, all_added, end_of}
-use Rattle.service.specs.Turns.{AnsweredOnce, IsTurn, MissedOnce, TickedOnce, Turn, added_by}
-use Rattle.service.specs.declared.misses.Event.{Event}
+use Rattle.service.specs.Turns.{AnsweredOnce, IsTurn, MissedOnce, ToldAtMost, Turn, added_by}
+use Rattle.service.specs.declared.events.Event.{Event}
 use Rattle.service.specs.declared.misses.MissOf.TheVariants as of
 use Rattle.turn_lock.specs.Elements.{elements_of}
 
@@ -22,7 +22,7 @@ state_still opening list more place within = ap (λ l. after_entries opening (en
 
 added_still : (opening : State) (lane : ℕ) (list more : List Event) (r : Reply) → r.turn.place ≤ length list → added_for opening lane (list ++ more) r ≡ added_for opening lane list r
 added_still opening lane list more r within =
-    ap (λ (s : State). added_by lane s (answer_with r.turn.choice lane s r.turn.at r.call)) (state_still opening list more r.turn.place within)
+    ap (λ (s : State). added_by lane r.turn.at s (answer_with r.turn.choice lane s r.turn.at r.call)) (state_still opening list more r.turn.place within)
 
 -- what stands at a place of a list stands there in one that goes on
 front_still : (list more added : List Event) (place : ℕ) → place + length added ≤ length list → take (length added) (drop place list) ≡ added → take (length added) (drop place (list ++ more)) ≡ added
@@ -168,26 +168,26 @@ prefix_length xs ys p = omega (arith, ap length (sym p.1), length-append xs p.0)
 
 pub run_of_miss : (opening : State) (dial : Option Dial) (lane : ℕ) (before list : List Event) → MissedOnce lane before list → IsRun opening dial lane before list [] ClockFailed
 run_of_miss opening dial lane before list once =
-    let less = prefix_length before once.0 once.3 in record {
-      left = missed (miss lane once.1 of.Clock once.2 ∷ []);
-      is_left = (once.1, once.2, refl);
+    let less = prefix_length before once.0 once.2 in record {
+      left = missed (miss lane of.Clock once.1 ∷ []);
+      is_left = (once.1, refl);
       top = length once.0;
       placed = less;
       front = once.0;
-      stands = once.4;
+      stands = once.3;
       after = omega arith;
-      own = once.5;
+      own = once.4;
     }
 
-pub run_of_ticks : (opening : State) (dial : Option Dial) (lane : ℕ) (before list : List Event) → TickedOnce dial lane before list → IsRun opening dial lane before list [] RanOut
-run_of_ticks opening dial lane before list once =
+pub run_of_told : (opening : State) (dial : Option Dial) (lane : ℕ) (before list : List Event) → ToldAtMost dial lane before list → IsRun opening dial lane before list [] RanOut
+run_of_told opening dial lane before list once =
     record {
-      left = entered once.1;
-      is_left = (once.1, once.2, once.3, refl);
+      left = once.1;
+      is_left = once.2;
       top = length before;
       placed = omega arith;
       front = once.0;
-      stands = once.5;
-      after = prefix_length before once.0 once.4;
-      own = once.6;
+      stands = once.4;
+      after = prefix_length before once.0 once.3;
+      own = once.5;
     }

@@ -1,5 +1,5 @@
 -- Connections that were served at once over one desk: what the one list says of the clock.
-use Rattle.std.proofs.Common.{◌≡◌, ◌≢◌, ◌⊎◌, inl, inr, ⊎_elim, ℕ, ◌+◌, ◌-◌, ◌<◌, ◌≤◌, ◌==◌, nat_lt, Bool, true, false, cond, List, [], ◌∷◌, ◌++◌, take, drop, length, filter, Option, None, Some, refl, sym, ap, ◌∙◌, subst, arith, ◌||◌, eq-eqb, ltb-true, ltb-false}
+use Rattle.std.proofs.Common.{◌≡◌, ◌≢◌, ◌⊎◌, inl, inr, ⊎_elim, ℕ, ◌+◌, ◌<◌, ◌≤◌, ◌==◌, nat_lt, Bool, true, false, cond, List, [], ◌∷◌, ◌++◌, length, filter, Option, None, Some, refl, sym, ap, ◌∙◌, subst, arith, ◌||◌, eq-eqb, ltb-true, ltb-false}
 use Rattle.std.specs.List.{AllByRecursion, list_any}
 use Rattle.std.proofs.lemmas.Bool.{or_parts, or_right}
 use Rattle.std.proofs.lemmas.List.Folds.{list_any-append}
@@ -13,25 +13,24 @@ use Rattle.connections.specs.declared.doors.ServeEnd.TheVariants as ends
 use Rattle.connections.specs.declared.serving.Served.{Served}
 use Rattle.connections.specs.declared.serving.Served.TheVariants as served
 use Rattle.desk.proofs.Choices.{rise_lower, rise_within}
-use Rattle.desk.specs.Keeping.{Given, Rise}
+use Rattle.desk.specs.Keeping.{Given, Rise, kept_at}
 use Rattle.desk.specs.Seen.{DeskAt, DeskSeen}
 use Rattle.desk_io.specs.Health.{HasFailed, IsSound, RoseOrFull}
 use Rattle.desk_io.specs.Over.{Over}
 use Rattle.desk_net.specs.Clocks.{Dial}
 use Rattle.desk_net.specs.Seen.{ClockSeen, DoorSeen, LinkGoesOn, LinkSeen}
 use Rattle.desk_net.specs.Streams.{unread}
-use Rattle.desk_state.specs.Legal.{Legal}
 use Rattle.desk_state.specs.State.{State}
 use Rattle.desk_state.specs.declared.entry.Entry.{Entry}
 use Rattle.service.specs.Connections.{in_lane}
 use Rattle.service.specs.Doors.{IsServedInTurns, IsServing}
 use Rattle.service.specs.Turning.{GoesInTurns}
-use Rattle.service.specs.Events.{entered, faults_of, is_of, lane_of, merged, missed, state_at}
+use Rattle.service.specs.Events.{entered, faults_in, faults_of, is_of, lane_of, missed, misses_in, state_at}
 use Rattle.service.specs.Runs.{IsLeft, IsRun, Reply, added_for, all_added}
-use Rattle.service.specs.Shared.{IsSharedSince, SharedSeen, events_in}
+use Rattle.service.specs.Shared.{IsOneList, IsSharedSince, SharedSeen, at_present, counted_from}
 use Rattle.service.specs.Turns.{added_by, entries_since, given_at, missed_by, missed_with, unkept_in}
-use Rattle.service.specs.declared.misses.Event.{Event}
-use Rattle.service.specs.declared.misses.Event.TheVariants.{Entered, Missed}
+use Rattle.service.specs.declared.events.Event.{Event}
+use Rattle.service.specs.declared.events.Event.TheVariants.{Told, Entered, Missed}
 use Rattle.service.specs.declared.misses.Miss.{Miss}
 use Rattle.service.specs.declared.misses.MissOf.TheVariants as of
 use Rattle.turn_lock.specs.Elements.{elements_of}
@@ -60,6 +59,7 @@ abbrev missed_clock : Miss → Bool
 missed_clock m = is_of of.Clock m.source
 
 abbrev is_clock_miss : Event → Bool
+is_clock_miss (Told lane at) = false
 is_clock_miss (Entered e) = false
 is_clock_miss (Missed m) = missed_clock m
 
@@ -67,13 +67,12 @@ any_entered : (es : List Entry) → list_any is_clock_miss (entered es) ≡ fals
 any_entered [] = refl
 any_entered (e ∷ es) = any_entered es
 
--- the one list has those that the misses have
-any_merged : (at : ℕ) (es : List Entry) (ms : List Miss) → list_any is_clock_miss (merged at es ms) ≡ list_any missed_clock ms
-any_merged at es [] = any_entered es
-any_merged at es (m ∷ ms) =
-    list_any-append is_clock_miss (entered (take (m.position - at) es)) (Missed m ∷ merged m.position (drop (m.position - at) es) ms)
-    ∙ (ap (λ b. b || (missed_clock m || list_any is_clock_miss (merged m.position (drop (m.position - at) es) ms))) (any_entered (take (m.position - at) es))
-    ∙ ap (λ b. missed_clock m || b) (any_merged m.position (drop (m.position - at) es) ms))
+-- the misses have those that the one list has
+any_misses : (list : List Event) → list_any is_clock_miss list ≡ list_any missed_clock (misses_in list)
+any_misses [] = refl
+any_misses (Told lane at ∷ list) = any_misses list
+any_misses (Entered e ∷ list) = any_misses list
+any_misses (Missed m ∷ list) = ap (λ b. missed_clock m || b) (any_misses list)
 
 fault_step : (m : Miss) (ms : List Miss) (b : Bool) → missed_clock m ≡ b → faults_of of.Clock (m ∷ ms) ≡ cond b (m.faults ∷ faults_of of.Clock ms) (faults_of of.Clock ms)
 fault_step m ms true is = rw is refl
@@ -125,22 +124,21 @@ none_of_any (e ∷ es) none =
 
 -- ---- what one connection adds
 
-kept_only : (lane position : ℕ) (number : Option ℕ) → list_any is_clock_miss (missed (missed_with lane position number)) ≡ false
-kept_only lane position None = refl
-kept_only lane position (Some faults) = refl
+kept_only : (lane : ℕ) (number : Option ℕ) → list_any is_clock_miss (missed (missed_with lane number)) ≡ false
+kept_only lane None = refl
+kept_only lane (Some faults) = refl
 
 -- a reply never adds a miss of the clock
-none_added : (lane : ℕ) (s : State) (g : Given) → list_any is_clock_miss (added_by lane s g) ≡ false
-none_added lane s g =
-    list_any-append is_clock_miss (entered (entries_since s g.state)) (missed (missed_by lane (length g.state.entries) g.outcome.said))
-    ∙ (ap (λ b. b || list_any is_clock_miss (missed (missed_by lane (length g.state.entries) g.outcome.said))) (any_entered (entries_since s g.state))
-    ∙ kept_only lane (length g.state.entries) (unkept_in g.outcome.said))
+none_added : (lane at : ℕ) (s : State) (g : Given) → list_any is_clock_miss (added_by lane at s g) ≡ false
+none_added lane at s g =
+    list_any-append is_clock_miss (entered (entries_since s g.state)) (missed (missed_by lane g.outcome.said))
+    ∙ (ap (λ b. b || list_any is_clock_miss (missed (missed_by lane g.outcome.said))) (any_entered (entries_since s g.state)) ∙ kept_only lane (unkept_in g.outcome.said))
 
 replies_add_none : (opening : State) (lane : ℕ) (list : List Event) (rs : List Reply) → list_any is_clock_miss (all_added opening lane list rs) ≡ false
 replies_add_none opening lane list [] = refl
 replies_add_none opening lane list (r ∷ rs) =
     list_any-append is_clock_miss (added_for opening lane list r) (all_added opening lane list rs)
-    ∙ (ap (λ b. b || list_any is_clock_miss (all_added opening lane list rs)) (none_added lane (state_at opening list r.turn.place) (given_at opening lane list r.call r.turn)) ∙ replies_add_none opening lane list rs)
+    ∙ (ap (λ b. b || list_any is_clock_miss (all_added opening lane list rs)) (none_added lane r.turn.at (state_at opening list r.turn.place) (given_at opening lane list r.call r.turn)) ∙ replies_add_none opening lane list rs)
 
 -- the lane's misses of the clock are what the end of its turns left
 run_adds : (opening : State) (dial : Option Dial) (lane : ℕ) (before list : List Event) (rs : List Reply) (last : Last) → elements_of lane_of lane before ≡ [] → (run : IsRun opening dial lane before list rs last)
@@ -150,7 +148,7 @@ run_adds opening dial lane before list rs last fresh run =
     ∙ (list_any-append is_clock_miss (all_added opening lane list rs) run.left ∙ ap (λ b. b || list_any is_clock_miss run.left) (replies_add_none opening lane list rs))
 
 failed_adds : (dial : Option Dial) (lane : ℕ) (left : List Event) → IsLeft dial lane ClockFailed left → list_any is_clock_miss left ≡ true
-failed_adds dial lane left is = ap (list_any is_clock_miss) is.2
+failed_adds dial lane left is = ap (list_any is_clock_miss) is.1
 
 answered_adds : (dial : Option Dial) (lane : ℕ) (left : List Event) → IsLeft dial lane Answered left → list_any is_clock_miss left ≡ false
 answered_adds dial lane left is = ap (list_any is_clock_miss) is
@@ -256,62 +254,63 @@ served_well link opening clock door list port most end is well = none_of_any lis
 
 -- ---- the whole
 
-abbrev pub desk_at_of : DeskSeen → DeskAt
-desk_at_of d = record { state = d.state; faults = d.keeper.health.faults }
+-- of a desk that was just opened
+pub list_opened : (desk : DeskSeen) (clock : ClockSeen) (s : SharedSeen) → desk.state ≡ desk.opening → IsSharedSince desk clock s
+    → IsOneList (record { before = clock; after = s.clock }) (record { before = at_present desk; after = at_present s.desk }) s.events
+list_opened desk clock s opened since =
+    subst (λ (o : State). IsOneList (record { before = clock; after = s.clock }) (record { before = record { state = o; kept = kept_at desk.keeper }; after = at_present s.desk }) s.events) (sym opened) since.list
+
+-- the keeper's faults may be counted from an earlier count
+pub list_from : (clock : Over ClockSeen) (desk : Over DeskAt) (list : List Event) (less : ℕ) → less ≤ desk.before.kept.faults → IsOneList clock desk list
+    → IsOneList clock (record { before = counted_from less desk.before; after = desk.after }) list
+list_from clock desk list less under is = record {
+  entries = is.entries;
+  legal = is.legal;
+  kept = rise_lower less desk.before.kept.faults (faults_in of.Keeper list) desk.after.kept.faults under is.kept;
+  timely = is.timely;
+  counted = is.counted;
+  timed = is.timed;
+  clocked = is.clocked;
+  follow = is.follow;
+  stored = is.stored;
+}
 
 serving_is : {L : Type 0} (link : L → LinkSeen) (door : Over (DoorSeen L)) (desk : DeskSeen) (clock : ClockSeen) (s : SharedSeen) (port most : ℕ) (end : ServeEnd) → desk.state ≡ desk.opening
-    → IsSharedSince desk clock s → HasServed lane_of (IsServedInTurns link desk.opening clock) door (events_in s) port most end
-    → IsServing link door (record { before = clock; after = s.clock }) (record { before = desk_at_of desk; after = desk_at_of s.desk }) port most end
+    → IsSharedSince desk clock s → HasServed lane_of (IsServedInTurns link desk.opening clock) door s.events port most end
+    → IsServing link door (record { before = clock; after = s.clock }) (record { before = at_present desk; after = at_present s.desk }) port most end
 serving_is {L} link door desk clock s port most end opened since served =
     let rose = RoseOrFull door.before.health.faults door.after.health.faults in
     let vs = served.visits in
-    let same = any_merged 0 s.desk.state.entries s.misses in
+    let same = any_misses s.events in
     record {
-      misses = s.misses;
-      served = subst (λ (o : State). HasServed lane_of (IsServedInTurns link o clock) door (events_in s) port most end) (sym opened) served;
-      legal = subst (λ (o : State). Legal o s.desk.state.entries s.desk.state) (sym opened) since.legal;
-      ordered = since.ordered;
-      kept = since.kept;
-      timely = since.timely;
-      counted = since.counted;
-      timed = since.timed;
-      clocked = since.clocked;
+      list = s.events;
+      served = subst (λ (o : State). HasServed lane_of (IsServedInTurns link o clock) door s.events port most end) (sym opened) served;
+      is = list_opened desk clock s opened since;
       well = λ is.
           let well : (length vs ≡ most) × AllByRecursion IsWell vs = subst (λ (e : ServeEnd). EndsServing rose most vs e) is served.ends in
-          no_faults s.misses (sym same ∙ served_well link desk.opening clock door (events_in s) port most end served well.1);
+          no_faults (misses_in s.events) (sym same ∙ served_well link desk.opening clock door s.events port most end served well.1);
       by_clock = λ is.
           let some : EndsServing rose most vs ends.ClockFault = subst (λ (e : ServeEnd). EndsServing rose most vs e) is served.ends in
-          let by = visits_missed served.looks link desk.opening clock 1 (events_in s) vs served.are some.2 in
-          let misses = some_faults s.misses (sym same ∙ by.0) in
-          let more = rise_some clock.health.faults (faults_of of.Clock s.misses) s.clock.health.faults since.timely misses in
+          let by = visits_missed served.looks link desk.opening clock 1 s.events vs served.are some.2 in
+          let misses = some_faults (misses_in s.events) (sym same ∙ by.0) in
+          let more = rise_some clock.health.faults (faults_in of.Clock s.events) s.clock.health.faults since.list.timely misses in
           ((omega (arith, more), by.1), misses);
     }
 
 -- of a desk and a clock as they were handed in, by the names that all turns have for them
 pub serving_so : {L : Type 0} (link : L → LinkSeen) (door : Over (DoorSeen L)) (desk d : DeskSeen) (clock k : ClockSeen) (s : SharedSeen) (port most : ℕ) (end : ServeEnd) → d ≡ desk → k ≡ clock
-    → d.state ≡ d.opening → IsSharedSince desk clock s → HasServed lane_of (IsServedInTurns link desk.opening clock) door (events_in s) port most end
-    → IsServing link door (record { before = k; after = s.clock }) (record { before = desk_at_of d; after = desk_at_of s.desk }) port most end
+    → d.state ≡ d.opening → IsSharedSince desk clock s → HasServed lane_of (IsServedInTurns link desk.opening clock) door s.events port most end
+    → IsServing link door (record { before = k; after = s.clock }) (record { before = at_present d; after = at_present s.desk }) port most end
 serving_so {L} link door desk d clock k s port most end one two opened since served =
     let opens : desk.state ≡ desk.opening = subst (λ (x : DeskSeen). x.state ≡ x.opening) one opened in
-    subst (λ (x : DeskSeen). IsServing link door (record { before = k; after = s.clock }) (record { before = desk_at_of x; after = desk_at_of s.desk }) port most end) (sym one)
-    (subst (λ (x : ClockSeen). IsServing link door (record { before = x; after = s.clock }) (record { before = desk_at_of desk; after = desk_at_of s.desk }) port most end) (sym two)
+    subst (λ (x : DeskSeen). IsServing link door (record { before = k; after = s.clock }) (record { before = at_present x; after = at_present s.desk }) port most end) (sym one)
+    (subst (λ (x : ClockSeen). IsServing link door (record { before = x; after = s.clock }) (record { before = at_present desk; after = at_present s.desk }) port most end) (sym two)
     (serving_is link door desk clock s port most end opens since served))
 
 -- ---- the same, counted from before
 
-pub serving_from : {L : Type 0} (link : L → LinkSeen) (door : Over (DoorSeen L)) (clock : Over ClockSeen) (desk : Over DeskAt) (port most : ℕ) (end : ServeEnd) (less : ℕ) → less ≤ desk.before.faults
+pub serving_from : {L : Type 0} (link : L → LinkSeen) (door : Over (DoorSeen L)) (clock : Over ClockSeen) (desk : Over DeskAt) (port most : ℕ) (end : ServeEnd) (less : ℕ) → less ≤ desk.before.kept.faults
     → IsServing link door clock desk port most end
-    → IsServing link door clock (record desk { before = record desk.before { faults = less } }) port most end
-serving_from link door clock desk port most end less under is = record {
-  misses = is.misses;
-  served = is.served;
-  legal = is.legal;
-  ordered = is.ordered;
-  kept = rise_lower less desk.before.faults (faults_of of.Keeper is.misses) desk.after.faults under is.kept;
-  timely = is.timely;
-  counted = is.counted;
-  timed = is.timed;
-  clocked = is.clocked;
-  well = is.well;
-  by_clock = is.by_clock;
-}
+    → IsServing link door clock (record { before = counted_from less desk.before; after = desk.after }) port most end
+serving_from link door clock desk port most end less under is =
+    record { list = is.list; served = is.served; is = list_from clock desk is.list less under is.is; well = is.well; by_clock = is.by_clock }

@@ -3,63 +3,44 @@ use Rattle.std.proofs.Common.{◌≡◌, ℕ, ◌+◌, ◌≤◌, length, List, 
 use Rattle.connections.specs.Doors.{HasLinks}
 use Rattle.connections.specs.declared.doors.ServeEnd.{ServeEnd}
 use Rattle.connections.specs.declared.doors.ServeEnd.TheVariants as ends
-use Rattle.desk.proofs.Choices.{rise_lower}
 use Rattle.desk.specs.Seen.{DeskAt, DeskSeen}
 use Rattle.desk_io.specs.Health.{IsSound, RoseOrFull}
 use Rattle.desk_io.specs.Over.{Over}
 use Rattle.desk_net.specs.Doors.{HasNext, Links}
 use Rattle.desk_net.specs.Seen.{ClockSeen, DoorSeen, LinkSeen}
-use Rattle.desk_state.specs.Legal.{Legal}
 use Rattle.desk_state.specs.State.{State}
 use Rattle.service.specs.Minutes.{HasTicked}
 use Rattle.service.specs.Staying.{IsStaying}
-use Rattle.service.proofs.ServingLaws.{desk_at_of}
+use Rattle.service.proofs.ServingLaws.{list_from, list_opened}
 use Rattle.service.specs.Doors.{IsServedInTurns}
-use Rattle.service.specs.Events.{faults_of, lane_of}
-use Rattle.service.specs.Shared.{IsSharedSince, SharedSeen, events_in}
-use Rattle.service.specs.declared.misses.MissOf.TheVariants as of
+use Rattle.service.specs.Events.{lane_of}
+use Rattle.service.specs.Shared.{IsSharedSince, SharedSeen, at_present, counted_from}
 use Rattle.workers.specs.Doorways.{AreMoved}
 use Rattle.workers.specs.Staying.{EndsStaying, HasStayed}
 use Rattle.workers.specs.declared.passages.Passage.{Passage}
 
 staying_is : {L : Type 0} (D : Type 0) (link : L → LinkSeen) (door : Over (DoorSeen L)) (desk : DeskSeen) (clock : ClockSeen) (s : SharedSeen) (port most : ℕ) (end : ServeEnd) → desk.state ≡ desk.opening → IsSharedSince desk clock s
-    → HasStayed D lane_of (IsServedInTurns link desk.opening clock) (HasTicked desk.opening clock.dial) door (events_in s) port most end
-    → IsStaying D link door (record { before = clock; after = s.clock }) (record { before = desk_at_of desk; after = desk_at_of s.desk }) port most end
+    → HasStayed D lane_of (IsServedInTurns link desk.opening clock) (HasTicked desk.opening clock.dial) door s.events port most end
+    → IsStaying D link door (record { before = clock; after = s.clock }) (record { before = at_present desk; after = at_present s.desk }) port most end
 staying_is D link door desk clock s port most end opened since stayed = record {
-  misses = s.misses;
-  stayed = subst (λ (o : State). HasStayed D lane_of (IsServedInTurns link o clock) (HasTicked o clock.dial) door (events_in s) port most end) (sym opened) stayed;
-  legal = subst (λ (o : State). Legal o s.desk.state.entries s.desk.state) (sym opened) since.legal;
-  ordered = since.ordered;
-  kept = since.kept;
-  timely = since.timely;
-  counted = since.counted;
-  timed = since.timed;
-  clocked = since.clocked;
+  list = s.events;
+  stayed = subst (λ (o : State). HasStayed D lane_of (IsServedInTurns link o clock) (HasTicked o clock.dial) door s.events port most end) (sym opened) stayed;
+  is = list_opened desk clock s opened since;
 }
 
 pub staying_so : {L : Type 0} (D : Type 0) (link : L → LinkSeen) (door : Over (DoorSeen L)) (desk d : DeskSeen) (clock k : ClockSeen) (s : SharedSeen) (port most : ℕ) (end : ServeEnd) → d ≡ desk → k ≡ clock → d.state ≡ d.opening
-    → IsSharedSince desk clock s → HasStayed D lane_of (IsServedInTurns link desk.opening clock) (HasTicked desk.opening clock.dial) door (events_in s) port most end
-    → IsStaying D link door (record { before = k; after = s.clock }) (record { before = desk_at_of d; after = desk_at_of s.desk }) port most end
+    → IsSharedSince desk clock s → HasStayed D lane_of (IsServedInTurns link desk.opening clock) (HasTicked desk.opening clock.dial) door s.events port most end
+    → IsStaying D link door (record { before = k; after = s.clock }) (record { before = at_present d; after = at_present s.desk }) port most end
 staying_so D link door desk d clock k s port most end one two opened since stayed =
     let opens : desk.state ≡ desk.opening = subst (λ (x : DeskSeen). x.state ≡ x.opening) one opened in
-    subst (λ (x : DeskSeen). IsStaying D link door (record { before = k; after = s.clock }) (record { before = desk_at_of x; after = desk_at_of s.desk }) port most end) (sym one)
-    (subst (λ (x : ClockSeen). IsStaying D link door (record { before = x; after = s.clock }) (record { before = desk_at_of desk; after = desk_at_of s.desk }) port most end) (sym two)
+    subst (λ (x : DeskSeen). IsStaying D link door (record { before = k; after = s.clock }) (record { before = at_present x; after = at_present s.desk }) port most end) (sym one)
+    (subst (λ (x : ClockSeen). IsStaying D link door (record { before = x; after = s.clock }) (record { before = at_present desk; after = at_present s.desk }) port most end) (sym two)
     (staying_is D link door desk clock s port most end opens since stayed))
 
 -- the keeper's faults may be counted from an earlier count
-pub staying_from : {L : Type 0} (D : Type 0) (link : L → LinkSeen) (door : Over (DoorSeen L)) (clock : Over ClockSeen) (desk : Over DeskAt) (port most : ℕ) (end : ServeEnd) (less : ℕ) → less ≤ desk.before.faults
-    → IsStaying D link door clock desk port most end → IsStaying D link door clock (record desk { before = record desk.before { faults = less } }) port most end
-staying_from D link door clock desk port most end less under is = record {
-  misses = is.misses;
-  stayed = is.stayed;
-  legal = is.legal;
-  ordered = is.ordered;
-  kept = rise_lower less desk.before.faults (faults_of of.Keeper is.misses) desk.after.faults under is.kept;
-  timely = is.timely;
-  counted = is.counted;
-  timed = is.timed;
-  clocked = is.clocked;
-}
+pub staying_from : {L : Type 0} (D : Type 0) (link : L → LinkSeen) (door : Over (DoorSeen L)) (clock : Over ClockSeen) (desk : Over DeskAt) (port most : ℕ) (end : ServeEnd) (less : ℕ) → less ≤ desk.before.kept.faults
+    → IsStaying D link door clock desk port most end → IsStaying D link door clock (record { before = counted_from less desk.before; after = desk.after }) port most end
+staying_from D link door clock desk port most end less under is = record { list = is.list; stayed = is.stayed; is = list_from clock desk is.list less under is.is }
 
 -- ---- why it ended
 

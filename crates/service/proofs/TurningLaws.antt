@@ -20,11 +20,11 @@ use Rattle.service.specs.declared.responses.Response.{Response}
 use Rattle.service.specs.declared.requested.Requested.{Requested}
 use Rattle.service.specs.declared.requested.Requested.TheVariants as requested
 use Rattle.service.proofs.ResponseLaws.{calls_is, uncalled, uncalled_by}
-use Rattle.service.proofs.RunLaws.{no_run, placed_within, reply_of, run_of_miss, run_of_one, run_of_ticks, run_on, run_within, state_still}
+use Rattle.service.proofs.RunLaws.{no_run, placed_within, reply_of, run_of_miss, run_of_one, run_of_told, run_on, run_within, state_still}
 use Rattle.service.specs.Events.{state_at}
 use Rattle.service.specs.Runs.{ArePlaced, IsRun, Reply, end_of}
-use Rattle.service.specs.Turns.{AnsweredOnce, MissedOnce, TickedOnce, Turn, UnansweredOnce}
-use Rattle.service.specs.declared.misses.Event.{Event}
+use Rattle.service.specs.Turns.{AnsweredOnce, MissedOnce, ToldAtMost, Turn, UnansweredOnce}
+use Rattle.service.specs.declared.events.Event.{Event}
 
 replies_of-append : (lane : ℕ) (xs ys : List Exchange) → replies_of lane (xs ++ ys) ≡ replies_of lane xs ++ replies_of lane ys
 replies_of-append lane [] ys = refl
@@ -105,8 +105,8 @@ goes_uncalled opening dial lane list x asked is none from =
 pub goes_missed : (opening : State) (dial : Option Dial) (lane : ℕ) (before list : List Event) → MissedOnce lane before list → GoesInTurns opening dial lane before list [] ClockFailed
 goes_missed opening dial lane before list once = record { turns = run_of_miss opening dial lane before list once; from = tt }
 
-pub goes_ticked : (opening : State) (dial : Option Dial) (lane : ℕ) (before list : List Event) → TickedOnce dial lane before list → GoesInTurns opening dial lane before list [] RanOut
-goes_ticked opening dial lane before list once = record { turns = run_of_ticks opening dial lane before list once; from = tt }
+pub goes_told : (opening : State) (dial : Option Dial) (lane : ℕ) (before list : List Event) → ToldAtMost dial lane before list → GoesInTurns opening dial lane before list [] RanOut
+goes_told opening dial lane before list once = record { turns = run_of_told opening dial lane before list once; from = tt }
 
 -- ---- what a request is answered
 
@@ -129,7 +129,7 @@ call_responds opening dial lane before list wire call says (Err NoMemory) is onc
 pub call_fails : (opening : State) (dial : Option Dial) (lane : ℕ) (before list : List Event) (wire : Wire) (call : Call) (why : Unanswered) → requested_by wire ≡ requested.Call call
     → UnansweredOnce dial lane before list why → Responds lane (GoesInTurns opening dial lane before list) wire (Err why)
 call_fails opening dial lane before list wire call ByClock is once = (calls_is wire call is, goes_missed opening dial lane before list once)
-call_fails opening dial lane before list wire call NoMemory is once = inr (inl (calls_is wire call is, goes_ticked opening dial lane before list once))
+call_fails opening dial lane before list wire call NoMemory is once = inr (inl (calls_is wire call is, goes_told opening dial lane before list once))
 
 -- no call
 no_replies : (lane : ℕ) (x : Exchange) (asked : Requested) → makes_call asked ≡ false → replies_for lane x asked ≡ []

@@ -69,7 +69,7 @@ pub record GoesAlone (lane : ℕ) (early late : ClockSeen) (before after : ℕ) 
 -- ---- over the models of a link, of the clock and of the desk
 
 abbrev pub GoesOver : ℕ → Over ClockSeen → Over DeskAt → List Exchange → Last → Type 0
-GoesOver lane clock desk = GoesAlone lane clock.before clock.after desk.before.faults desk.after.faults desk.before.state desk.after.state
+GoesOver lane clock desk = GoesAlone lane clock.before clock.after desk.before.kept.faults desk.after.kept.faults desk.before.state desk.after.state
 
 -- one step of a connection, with the bytes unused before it and the bytes left after it
 abbrev pub ServesStep : ℕ → Over LinkSeen → Over ClockSeen → Over DeskAt → List ℕ → List ℕ → Option Served → Type 0

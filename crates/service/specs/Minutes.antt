@@ -8,7 +8,7 @@ use Rattle.desk.specs.declared.answering.Answered.{Answered}
 use Rattle.desk_net.specs.Clocks.{Dial}
 use Rattle.desk_state.specs.State.{State}
 use Rattle.service.specs.Turns.{ComesOnce}
-use Rattle.service.specs.declared.misses.Event.{Event}
+use Rattle.service.specs.declared.events.Event.{Event}
 
 -- the call by which a minute ticks: a view, by a person whom no desk knows
 abbrev pub minute_call : Call

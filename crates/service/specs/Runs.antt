@@ -1,15 +1,13 @@
 -- The turns of a lane's calls in the list of a shared desk.
 use Rattle.std.specs.Prelude.{◌≡◌, ℕ, ◌+◌, ◌≤◌, List, [], ◌∷◌, ◌++◌, length, Option}
-use Rattle.std.specs.List.{AllByRecursion}
 use Rattle.asks.specs.declared.call.Call.{Call}
 use Rattle.connections.specs.Connections.{Answered, ClockFailed, Last, RanOut}
 use Rattle.desk_net.specs.Clocks.{Dial}
 use Rattle.desk_state.specs.State.{State}
-use Rattle.desk_state.specs.declared.entry.Entry.{Entry}
 use Rattle.desk_state.specs.declared.lanes.Said.{Said}
-use Rattle.service.specs.Events.{entered, lane_of, miss, missed}
-use Rattle.service.specs.Turns.{IsTickTold, IsTurn, Turn, added_at}
-use Rattle.service.specs.declared.misses.Event.{Event}
+use Rattle.service.specs.Events.{lane_of, miss, missed}
+use Rattle.service.specs.Turns.{IsTurn, MayHaveTold, Turn, added_at}
+use Rattle.service.specs.declared.events.Event.{Event}
 use Rattle.service.specs.declared.misses.MissOf.TheVariants as of
 use Rattle.turn_lock.specs.Elements.{elements_of}
 
@@ -37,11 +35,11 @@ ArePlaced opening dial lane list floor top [] = floor ≤ top
 ArePlaced opening dial lane list floor top (r ∷ rs) =
     IsTurn opening dial lane list floor (end_of opening lane list r) r.call r.says r.turn × ArePlaced opening dial lane list (end_of opening lane list r) top rs
 
--- the events after the last turn: none, the miss of the clock, or at most a tick to a moment of the clock
+-- the events after the last turn: none, the miss of the clock, or an answer of the clock and at most the tick to it
 abbrev pub IsLeft : Option Dial → ℕ → Last → List Event → Type 0
 IsLeft dial lane Answered left = left ≡ []
-IsLeft dial lane ClockFailed left = (position : ℕ) × (faults : ℕ) × (left ≡ missed (miss lane position of.Clock faults ∷ []))
-IsLeft dial lane RanOut left = (ticks : List Entry) × (length ticks ≤ 1) × AllByRecursion (λ e. IsTickTold dial e.what) ticks × (left ≡ entered ticks)
+IsLeft dial lane ClockFailed left = (faults : ℕ) × (left ≡ missed (miss lane of.Clock faults ∷ []))
+IsLeft dial lane RanOut left = MayHaveTold dial lane left
 
 -- The turns of a lane, between the list that its pass had seen before and the list at the end. The events left come
 -- after all turns, at the end of the list. The lane added nothing else.

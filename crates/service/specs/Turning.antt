@@ -11,7 +11,7 @@ use Rattle.service.specs.declared.requested.Requested.{Requested}
 use Rattle.service.specs.declared.requested.Requested.TheVariants as requested
 use Rattle.service.specs.Events.{state_at}
 use Rattle.service.specs.Runs.{IsRun, Reply}
-use Rattle.service.specs.declared.misses.Event.{Event}
+use Rattle.service.specs.declared.events.Event.{Event}
 
 -- the reply to the call of a request, with its turn; none if the request is no call
 abbrev pub replies_for : ℕ → Exchange → Requested → List Reply

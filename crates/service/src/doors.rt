@@ -62,7 +62,7 @@ where
     ensures steady_door { IsSound (D.seen door).health → HasLinks (D.seen door).links connections
         → result.end ≢ ends.DoorFault }
 {
-    let shared = Shared::<K, B, C, A>::new(alloc, desk, clock);
+    let shared = Shared::<K, B, C, A>::new(desk, clock);
     let way = OnDesk { gate };
     let Finished { value, door, end } = serve_all(rt, alloc, shared, &way, door, port, connections);
     let (desk, clock) = value.into_parts();
@@ -79,8 +79,8 @@ where
 /// Each of its calls takes a turn of its own. The gate is called around the connection. The links are given back in
 /// the order of acceptance. A fault of a link ends that connection only. A fault of the door ends the serving.
 ///
-/// Everything that the connections did is in one list, of the desk's history and of the misses. The list contains
-/// nothing that no connection asked for.
+/// Everything that the connections did is in one list, of the desk's history, the clock's answers and the misses. The
+/// list contains nothing that no connection asked for.
 pub fn serve_door<
     R: Threads + Wait + Sync,
     K: Keeper + Send,

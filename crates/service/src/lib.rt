@@ -4,7 +4,9 @@
 
 mod answering;
 mod doors;
+mod events;
 mod exchange;
+mod laws;
 mod minutes;
 mod misses;
 mod opened;
@@ -20,8 +22,10 @@ mod turn_answers;
 mod turns;
 
 pub use doors::{Left, serve_door};
+pub use events::Event;
+pub use laws::ticks_take_answers;
 pub use minutes::Minutes;
-pub use misses::{Event, Miss, MissOf};
+pub use misses::{Miss, MissOf};
 pub use opened::Opened;
 pub use serving::serve_link;
 pub use shared::Shared;

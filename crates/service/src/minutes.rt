@@ -4,7 +4,7 @@ ghost use Rattle.service.specs.Minutes as spec;
 ghost use Rattle.service.specs.Minutes.{HasTicked};
 ghost use Rattle.turn_lock.specs.Passes.{lock_id, pass_lock, pass_number, pass_numbers, pass_seen};
 
-use crate::misses::Event;
+use crate::events::Event;
 use crate::opened::Opened;
 use crate::shared::Shared;
 use crate::turn_answers::answer_in_turn;

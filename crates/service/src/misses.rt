@@ -1,5 +1,3 @@
-use desk_state::Entry;
-
 /// Which external object failed.
 #[derive(Clone, Copy, Debug, PartialEq, Eq)]
 pub enum MissOf {
@@ -13,15 +11,7 @@ pub enum MissOf {
 #[derive(Clone, Copy, Debug, PartialEq, Eq)]
 pub struct Miss {
     pub lane: u32,
-    /// The number of entries that the history had then.
-    pub position: u64,
     pub source: MissOf,
     /// The object's count of faults then.
     pub faults: u64,
-}
-
-/// An event in the list of a shared desk: an entry of its history, or a miss. No value of it exists.
-pub enum Event {
-    Entered(Entry),
-    Missed(Miss),
 }

@@ -3,7 +3,7 @@ ghost use mathlib.Core.List.{IsPrefix};
 ghost use Rattle.service.specs.Doors.{IsServedInTurns};
 ghost use Rattle.turn_lock.specs.Passes.{lock_id, pass_lock, pass_number, pass_numbers, pass_seen};
 
-use crate::misses::Event;
+use crate::events::Event;
 use crate::opened::Opened;
 use crate::shared::Shared;
 use crate::turns::serve_turns;

@@ -4,13 +4,13 @@ ghost use Rattle.desk.specs.Seen.{desk_seen};
 ghost use Rattle.desk.specs.Shown.{IsShown};
 ghost use Rattle.desk_io.specs.Health.{IsSound, IsStill};
 ghost use Rattle.service.specs.Events.{lane_of};
-ghost use Rattle.service.specs.Shared.{IsSharedSince, events_of, seen_by};
+ghost use Rattle.service.specs.Shared.{IsSharedSince, seen_by};
 ghost use Rattle.service.specs.Turns.{ComesOnce, GoesInTurn};
 ghost use Rattle.connections.specs.declared.answers.Unanswered.TheVariants.{ClockFault as ByClock};
 ghost use Rattle.turn_lock.specs.Elements.{Continues};
 
 use crate::answering::answer_over;
-use crate::misses::{Event, Miss};
+use crate::events::{Event, Events};
 use crate::opened::Opened;
 use alerts::Bell;
 use asks::Call;
@@ -24,12 +24,12 @@ use std::marker::{Model, PhantomData};
 use std::sync::ledger::Ledger;
 use turn_lock::Listed;
 
-/// A desk that connections share, its clock, and the misses so far.
+/// A desk that connections share, its clock, and the events so far.
 #[derive(Drop)]
 pub struct Shared<K: Keeper, B: Bell, C: Clock, A: Opened> {
     desk: Desk<K, B>,
     clock: C,
-    misses: Vec<Miss>,
+    events: Events,
     of: PhantomData<A>,
 }
 
@@ -38,40 +38,39 @@ impl<K: Keeper, B: Bell, C: Clock, A: Opened> Model for Shared<K, B, C, A> {
 
     ghost Value = { SharedDesk K B C };
 
-    ghost view = { λ s. record { desk = s.desk; clock = s.clock; misses = s.misses.items } };
+    ghost view = { λ s. record { desk = s.desk; clock = s.clock; events = s.events } };
 
     ghost invariant = { λ s. IsSharedSince A.desk A.clock
-        (parts_seen K.seen B.seen C.seen s.desk s.clock s.misses.items) };
+        (parts_seen K.seen B.seen C.seen s.desk s.clock s.events) };
 }
 
 impl<K: Keeper, B: Bell, C: Clock, A: Opened> Listed for Shared<K, B, C, A> {
     ghost use Rattle.service.specs.Events.{lane_of};
-    ghost use Rattle.service.specs.Shared.{events_of};
 
     type Element = Event;
 
-    ghost list = { events_of };
+    ghost list = { λ s. s.events };
 
     ghost bears = { lane_of };
 
     fn length(&self) -> u64 {
-        (self.desk.board.entries() + self.misses.len()) as u64
+        self.events.len()
     }
 }
 
 impl<K: Keeper, B: Bell, C: Clock, A: Opened> Shared<K, B, C, A> {
     /// Starts with a desk that was just opened, and its clock. Allocates nothing.
-    pub fn new(alloc: Global, desk: Desk<K, B>, clock: C) -> Shared<K, B, C, A>
+    pub fn new(desk: Desk<K, B>, clock: C) -> Shared<K, B, C, A>
         requires desk { desk_seen K.seen B.seen desk ≡ A.desk }
         requires clock { C.seen clock ≡ A.clock }
         requires opened { desk.board.state ≡ desk.board.opening }
         requires none { desk.board.state.entries ≡ [] }
-        ensures { result ≡ record { desk = desk; clock = clock; misses = [] } }
+        ensures { result ≡ record { desk = desk; clock = clock; events = [] } }
     {
         Shared {
             desk,
             clock,
-            misses: Vec::new(alloc),
+            events: Events::new(),
             of: PhantomData,
         }
     }
@@ -96,9 +95,9 @@ impl<K: Keeper, B: Bell, C: Clock, A: Opened> Shared<K, B, C, A> {
         requires { CallHasForms call.now }
         ensures goes { GoesInTurn lane call.now (seen_by K.seen B.seen C.seen self.old)
             (seen_by K.seen B.seen C.seen self.new) result }
-        ensures comes { ComesOnce A.desk.opening A.clock.dial lane (events_of self.old) (events_of self.new) call.now
+        ensures comes { ComesOnce A.desk.opening A.clock.dial lane self.old.events self.new.events call.now
             result }
-        ensures list { Continues lane_of lane (events_of self.old) (events_of self.new) }
+        ensures list { Continues lane_of lane self.old.events self.new.events }
         ensures since { IsSharedSince A.desk A.clock (seen_by K.seen B.seen C.seen self.new) }
         ensures shown { IfOk result (λ a. IsShown a.outcome) }
         ensures still { result ≢ Err ByClock
@@ -106,7 +105,7 @@ impl<K: Keeper, B: Bell, C: Clock, A: Opened> Shared<K, B, C, A> {
         // A sound clock never leaves a call without an answer.
         ensures steady { IsSound A.clock.health → result ≢ Err ByClock }
     {
-        if self.misses.len() >= MOST {
+        if self.events.len() >= MOST {
             return Err(Unanswered::OutOfMemory);
         }
         let _ = self.desk.board.now();
@@ -114,7 +113,7 @@ impl<K: Keeper, B: Bell, C: Clock, A: Opened> Shared<K, B, C, A> {
             alloc,
             &mut self.desk,
             &mut self.clock,
-            &mut self.misses,
+            &mut self.events,
             lane,
             call,
             steps,
@@ -124,5 +123,5 @@ impl<K: Keeper, B: Bell, C: Clock, A: Opened> Shared<K, B, C, A> {
     }
 }
 
-// The limit on misses. No machine holds so many, and the number of all events stays within 64 bits.
-const MOST: usize = 1 << 62;
+// The limit on events, so that their number stays within 64 bits. No service lives that long.
+const MOST: u64 = 1 << 62;

@@ -53,7 +53,7 @@ where
     ensures clock { ClockGoesOn (C.seen clock) (C.seen result.clock) }
     ensures door { (D.seen door).health.faults ≤ (D.seen result.door).health.faults }
 {
-    let shared = Shared::<K, B, C, A>::new(alloc, desk, clock);
+    let shared = Shared::<K, B, C, A>::new(desk, clock);
     let way = OnDesk { gate };
     let Finished { value, door, end } = stay(
         rt, alloc, shared, &way, &Minutes, door, port, workers,
@@ -74,8 +74,8 @@ where
 ///
 /// Beside them the desk ticks as soon as a minute of its clock begins, in the lane after theirs.
 ///
-/// Everything that was done is in one list, of the desk's history and of the misses. The list contains nothing that
-/// no connection and no minute asked for.
+/// Everything that was done is in one list, of the desk's history, the clock's answers and the misses. The list
+/// contains nothing that no connection and no minute asked for.
 pub fn stay_at_door<
     R: Threads + Wait + Sync,
     K: Keeper + Send,

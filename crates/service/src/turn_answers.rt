@@ -39,7 +39,8 @@ pub fn answer_in_turn<R: Wait, K: Keeper, B: Bell, C: Clock, A: Opened, L: Ledge
     ensures numbers { pass_numbers result.1 ≡ pass_numbers pass }
     ensures seen { IsPrefix (pass_seen pass) (pass_seen result.1) }
     ensures comes { ComesOnce A.desk.opening A.clock.dial lane (pass_seen pass) (pass_seen result.1) call.now result.0 }
-    // The pass has now seen the list of a shared desk: a legal history, and misses whose counts rise.
+    // The pass has now seen the list of a shared desk: a legal history, the clock's answers, and misses whose counts
+    // rise.
     ensures shared { IsSharedList A.desk A.clock (pass_seen result.1) }
     ensures shown { IfOk result.0 (λ a. IsShown a.outcome) }
     ensures steady { IsSound A.clock.health → result.0 ≢ Err ByClock }

@@ -177,12 +177,13 @@ fn serve_next_in_turn<R: Wait, K: Keeper, B: Bell, N: Link, C: Clock, A: Opened,
 /// turn at the lock, and is made at the moment that the clock returns in that turn.
 ///
 /// The bytes written are the responses to the requests in the link's input. Each reply has a place in the list that
-/// the pass has seen at the end. The places are in order, after the list that the pass had seen before. A reply is
-/// the answer in the state at its place, and the events that it adds follow there.
+/// the pass has seen at the end. The places are in order, after the list that the pass had seen before. The clock's
+/// answer is at that place. The reply is the answer in the state there at that moment, and the events that it adds
+/// follow.
 ///
 /// The lane has added nothing else, except at the end: a clock that failed leaves its miss there. If memory ran out,
-/// at most a tick is left. If the list before is that of a shared desk, a legal history with its misses, so is the
-/// list at the end.
+/// at most an answer of the clock and a tick are left. If the list before is that of a shared desk, a legal history
+/// with the clock's answers and the misses, so is the list at the end.
 pub fn serve_turns<R: Wait, K: Keeper, B: Bell, N: Link, C: Clock, A: Opened, L: Ledger>(
     rt: &R,
     alloc: Global,

@@ -13,13 +13,13 @@ use Rattle.scripts.specs.Routes.{items_in}
 use Rattle.scripts.specs.ShiftRuns.{shifts_of}
 use Rattle.commands.proofs.shifts.shifts_over.Goals as goal
 
-shifts_since : (opening : State) (script : List ℕ) (desk : Over DeskAt) (old new : List Hung) (answer : Outcome) → RunsSeated opening script desk old new answer → (less : ℕ) → less ≤ desk.before.faults
+shifts_since : (opening : State) (script : List ℕ) (desk : Over DeskAt) (old new : List Hung) (answer : Outcome) → RunsSeated opening script desk old new answer → (less : ℕ) → less ≤ desk.before.kept.faults
     → RunsShifts script (since less desk) answer
 shifts_since opening script desk old new answer runs less under = ends_map answer runs
-    (λ text run. shift_run_lower less desk.before.faults desk.after.faults desk.before.state script desk.after.state text under run.run)
-    (λ part. items_lower less desk.before.faults desk.after.faults desk.before.state (items_in (shifts_of desk.before.state script)) desk.after.state under part)
+    (λ text run. shift_run_lower less desk.before.kept desk.after.kept desk.before.state script desk.after.state text under run.run)
+    (λ part. items_lower less desk.before.kept desk.after.kept desk.before.state (items_in (shifts_of desk.before.state script)) desk.after.state under part)
 
-shifts_from : (opening : State) (script first : List ℕ) (desk : Over DeskAt) (old new : List Hung) (answer : Outcome) → script ≡ first → RunsSeated opening script desk old new answer → (less : ℕ) → less ≤ desk.before.faults
+shifts_from : (opening : State) (script first : List ℕ) (desk : Over DeskAt) (old new : List Hung) (answer : Outcome) → script ≡ first → RunsSeated opening script desk old new answer → (less : ℕ) → less ≤ desk.before.kept.faults
     → RunsShifts first (since less desk) answer
 shifts_from opening script first desk old new answer same runs less under =
     subst (λ (text : List ℕ). RunsShifts text (since less desk) answer) same (shifts_since opening script desk old new answer runs less under)

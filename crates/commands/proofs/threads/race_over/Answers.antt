@@ -1,6 +1,6 @@
 use Rattle.std.proofs.Common.{◌∙◌, Err, ap, subst, sym, ◌≡◌, ◌≤◌, ℕ, List}
 use Rattle.alerts.specs.Ringing.{hung_all}
-use Rattle.scripts.specs.Below.{Shown, KeepsState, desk_at, DeskAt, IsRace, IsRaceInPart}
+use Rattle.scripts.specs.Below.{Shown, desk_at, DeskAt, IsRace, IsRaceInPart}
 use Rattle.commands.proofs.Opened.{held_opened, keeper_worked, not_opened, opened_fresh, worked}
 use Rattle.commands.proofs.RungLaws.{rung_over}
 use Rattle.commands.specs.Working.{Races, told_of, since}
@@ -10,24 +10,24 @@ use Rattle.std.specs.Prelude.{IfOk, Result, Ok}
 use Rattle.scripts.proofs.Below.{merged_lower, part_lower, history_lower}
 use Rattle.commands.proofs.threads.race_over.Goals as goal
 
-races_told : {E : Type 0} (scripts : List (List ℕ)) (before after : DeskAt) (text : Result (List ℕ) E) → IfOk text (λ t. IsRace before.faults after.faults before.state scripts after.state t)
-    → IsRaceInPart before.faults after.faults before.state scripts after.state → (less : ℕ) → less ≤ before.faults → Races scripts (since less (record { before = before; after = after })) (told_of text)
+races_told : {E : Type 0} (scripts : List (List ℕ)) (before after : DeskAt) (text : Result (List ℕ) E) → IfOk text (λ t. IsRace before.kept after.kept before.state scripts after.state t)
+    → IsRaceInPart before.kept after.kept before.state scripts after.state → (less : ℕ) → less ≤ before.kept.faults → Races scripts (since less (record { before = before; after = after })) (told_of text)
 races_told scripts before after (Ok text) race part less under = record {
   lanes = race.lanes;
   items = race.items;
   done = race.done;
-  merged = merged_lower less before.faults after.faults before.state after.state race.lanes under race.merged;
-  history = history_lower less before.faults after.faults before.state after.state race.lanes under race.history;
+  merged = merged_lower less before.kept after.kept before.state after.state race.lanes under race.merged;
+  history = history_lower less before.kept.faults after.kept.faults before.state after.state race.lanes under race.history;
   says = race.says;
 }
 races_told scripts before after (Err e) race part less under = record {
   lanes = part.lanes;
   items = part.items;
-  part = part_lower less before.faults after.faults before.state after.state part.lanes under part.part;
+  part = part_lower less before.kept after.kept before.state after.state part.lanes under part.part;
 }
 
-races_since : {E : Type 0} (scripts texts : List (List ℕ)) (before after : DeskAt) (text : Result (List ℕ) E) → scripts ≡ texts → IfOk text (λ t. IsRace before.faults after.faults before.state scripts after.state t)
-    → IsRaceInPart before.faults after.faults before.state scripts after.state → (less : ℕ) → less ≤ before.faults → Races texts (since less (record { before = before; after = after })) (told_of text)
+races_since : {E : Type 0} (scripts texts : List (List ℕ)) (before after : DeskAt) (text : Result (List ℕ) E) → scripts ≡ texts → IfOk text (λ t. IsRace before.kept after.kept before.state scripts after.state t)
+    → IsRaceInPart before.kept after.kept before.state scripts after.state → (less : ℕ) → less ≤ before.kept.faults → Races texts (since less (record { before = before; after = after })) (told_of text)
 races_since scripts texts before after text same race part less under =
     subst (λ ts. Races ts (since less (record { before = before; after = after })) (told_of text)) same (races_told scripts before after text race part less under)
 
@@ -50,7 +50,7 @@ returns-in-Ok-clause-opens g c =
     (subst (λ k. KeeperGoesOn (seen c.args.provided.keeper) (seen k)) (sym held.ensures.keeper) opened.on)
     (subst (λ k. OpensOver (seen c.args.provided.keeper) (seen k) c.args.provided.tables held.result.board) (sym held.ensures.keeper)
     (subst (λ (b : Shown). OpensOver (seen c.args.provided.keeper) (seen c.in-Ok.desk.keeper) c.args.provided.tables b) (sym held.ensures.board)
-    (record { entered = opened.kept.entered; kept = opened.kept.kept })))
+    (record { entered = opened.kept.entered; none = opened.kept.none; kept = opened.kept.kept })))
     work.ensures.on
     (races_since c.as_slice.result.now c.args.texts.now (desk_at seen held.result) (desk_at seen work.result.desk) work.result.text c.as_slice.ensures work.ensures.race work.ensures.part)
     left.ensures.holds

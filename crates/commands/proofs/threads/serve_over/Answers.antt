@@ -10,7 +10,7 @@ use Rattle.service.proofs.ServingLaws.{serving_from}
 use Rattle.commands.specs.Faults.{Outcome}
 use Rattle.commands.proofs.threads.serve_over.Goals as goal
 
-serves_since : {L : Type 0} (service : Service L) (port most : ℕ) (desk : Over DeskAt) (answer : Outcome) → Serves service port most desk answer → (less : ℕ) → less ≤ desk.before.faults
+serves_since : {L : Type 0} (service : Service L) (port most : ℕ) (desk : Over DeskAt) (answer : Outcome) → Serves service port most desk answer → (less : ℕ) → less ≤ desk.before.kept.faults
     → Serves service port most (since less desk) answer
 serves_since service port most desk answer serves less under = record {
   end = serves.end;

@@ -10,7 +10,7 @@ use Rattle.service.proofs.StayingLaws.{staying_from}
 use Rattle.commands.specs.Faults.{Outcome}
 use Rattle.commands.proofs.threads.stay_over.Goals as goal
 
-stays_since : {L : Type 0} (service : Service L) (port : ℕ) (desk : Over DeskAt) (answer : Outcome) → Stays service port desk answer → (less : ℕ) → less ≤ desk.before.faults → Stays service port (since less desk) answer
+stays_since : {L : Type 0} (service : Service L) (port : ℕ) (desk : Over DeskAt) (answer : Outcome) → Stays service port desk answer → (less : ℕ) → less ≤ desk.before.kept.faults → Stays service port (since less desk) answer
 stays_since service port desk answer stays less under = record {
   end = stays.end;
   stays = staying_from service.door_type service.link service.door service.clock desk port 33 stays.end less under stays.stays;

@@ -5,7 +5,7 @@ use Rattle.desk.proofs.answering.answer.Goals as goal
 
 pub returns-clause-given : goal.returns-clause-given
 returns-clause-given g c =
-    let is = c.in_ok-judged.ensures in record { choice = choice_of c.in_ok-judged.judged; counted = is.count; exact = is.exact; asked = is.asked; is = is.given }
+    let is = c.in_ok-judged.ensures in record { choice = choice_of c.in_ok-judged.judged; counted = is.count; exact = is.exact; asks = is.asks; is = is.given }
 
 pub returns-clause-quiet : goal.returns-clause-quiet
 returns-clause-quiet g c = λ sound.

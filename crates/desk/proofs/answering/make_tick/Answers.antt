@@ -1,12 +1,21 @@
+use Rattle.std.proofs.Common.{refl}
 use Rattle.desk.proofs.HeardLaws.{tick_settles}
-use Rattle.desk.proofs.Steps.{settled_is, keeps_as, asked_as}
+use Rattle.desk_state.proofs.Boards.{tick_keeps}
+use Rattle.desk.proofs.Steps.{asks_as, history_as, keeps_as, next_as, settled_is}
 use Rattle.desk.proofs.answering.make_tick.Goals as goal
 
 pub settle-requires-clause-keeps : goal.settle-requires-clause-keeps
 settle-requires-clause-keeps g c = keeps_as _ _ _ _ _ _ c.in_ok-prepared.ensures.ok c.in_ok-prepared.ensures.rows
 
-pub returns-clause-asked : goal.returns-clause-asked
-returns-clause-asked g c = asked_as _ _ _ _ _ _ c.in_ok-prepared.ensures.stepped c.settle.ensures.asked
+pub settle-requires-clause-history : goal.settle-requires-clause-history
+settle-requires-clause-history g c = history_as _ _ _ _ _ c.in_ok-prepared.ensures.ok c.now.ensures.board.history
+
+pub settle-requires-clause-next : goal.settle-requires-clause-next
+settle-requires-clause-next g c =
+    next_as _ _ _ _ _ _ _ c.in_ok-prepared.ensures.ok c.in_ok-prepared.ensures.stepped (tick_keeps _ _ _ c.args.lane c.args.to c.now.ensures.board c.requires.later c.requires.within refl).history
+
+pub returns-clause-asks : goal.returns-clause-asks
+returns-clause-asks g c = asks_as _ _ _ _ _ _ c.in_ok-prepared.ensures.stepped c.settle.ensures.asks
 
 pub returns-clause-on : goal.returns-clause-on
 returns-clause-on g c =

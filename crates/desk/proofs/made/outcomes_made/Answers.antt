@@ -1,5 +1,6 @@
 use Rattle.std.proofs.Common.{◌≡◌, ◌∙◌, Some, sym}
 use Rattle.made_items.specs.Makers.{next_call}
+use Rattle.desk.proofs.AskedLaws.{keeper_later}
 use Rattle.desk.proofs.InPart.{on_err}
 use Rattle.desk.proofs.MadeLaws.{all_made, made_after, made_at, made_next, made_so_far, none_made}
 use Rattle.desk.proofs.SeenLaws.{desk_on, desk_stays}
@@ -20,7 +21,7 @@ returns-in_err-outcome-clause-err g c =
     let is : next_call maker ≡ Some c.in-Some.call = sym c.in_ok-call.ensures.next ∙ c.in-Some.is in
     let one = c.in_err-outcome.ensures in
     on_err c.from_residual-in_err-outcome.result
-    (made_at _ _ _ _ c.args.number c.args.count _ _ maker c.loop-outcomes.outcomes.items c.in-Some.call c.loop-outcomes.invariant.made is one.on.keeper.health.later one.err)
+    (made_at _ _ _ _ c.args.number c.args.count _ _ maker c.loop-outcomes.outcomes.items c.in-Some.call c.loop-outcomes.invariant.made is (keeper_later _ _ one.on.keeper) one.err)
 
 pub returns-in_err-push-clause-err : goal.returns-in_err-push-clause-err
 returns-in_err-push-clause-err g c =
@@ -28,7 +29,7 @@ returns-in_err-push-clause-err g c =
     let is : next_call maker ≡ Some c.in-Some.call = sym c.in_ok-call.ensures.next ∙ c.in-Some.is in
     let given = c.in_ok-outcome.ensures.given in
     on_err c.from_residual-in_err-push.result
-    (made_after _ _ _ _ c.args.number c.args.count _ _ maker c.loop-outcomes.outcomes.items c.in-Some.call given.choice c.loop-outcomes.invariant.made is given.counted given.state)
+    (made_after _ _ _ _ c.args.number c.args.count _ _ maker c.loop-outcomes.outcomes.items c.in-Some.call given.choice c.loop-outcomes.invariant.made is (record { counted = given.counted; stored = given.stored }) given.state)
 
 pub returns-in_err-push-clause-on : goal.returns-in_err-push-clause-on
 returns-in_err-push-clause-on g c = desk_on _ _ _ c.loop-outcomes.invariant.on c.in_ok-outcome.ensures.on
@@ -41,7 +42,7 @@ loop-outcomes-preserved g c =
     let given = c.in_ok-outcome.ensures.given in
     record {
       made = made_next _ _ _ _ c.args.number c.args.count _ _ maker c.note.new.self c.loop-outcomes.outcomes.items _ c.in-Some.call given.choice c.in_ok-outcome.outcome c.done_of.result
-          inv.made is c.done_of.ensures c.note.ensures.on given.counted given.outcome given.state c.in_ok-push.ensures.items;
+          inv.made is c.done_of.ensures c.note.ensures.on (record { counted = given.counted; stored = given.stored }) given.outcome given.state c.in_ok-push.ensures.items;
       on = desk_on _ _ _ inv.on c.in_ok-outcome.ensures.on;
     }
 

@@ -1,3 +1,5 @@
+use Rattle.desk.proofs.AskedLaws.{keeper_later}
+use Rattle.desk.proofs.Choices.{kept_by}
 use Rattle.desk.proofs.InPart.{on_err}
 use Rattle.desk.proofs.SeenLaws.{desk_on, desk_stays}
 use Rattle.desk.proofs.Told.{comes_first, comes_last, is_run_told, none_told, told_after, told_at, told_before, told_next}
@@ -13,26 +15,26 @@ pub returns-in_err-answered-clause-err : goal.returns-in_err-answered-clause-err
 returns-in_err-answered-clause-err g c =
     let is = c.in_err-answered.ensures in
     let left = comes_first _ c.in-Some.item _ _ c.in-Some.is c.in_ok-item.ensures.comes in
-    on_err c.from_residual-in_err-answered.result (told_at 1 _ _ _ _ _ _ _ _ _ _ _ left c.loop-out.invariant.told is.on.keeper.health.later is.err)
+    on_err c.from_residual-in_err-answered.result (told_at 1 _ _ _ _ _ _ _ _ _ _ _ left c.loop-out.invariant.told (keeper_later _ _ is.on.keeper) is.err)
 
 pub returns-in_err-push_outcome-clause-err : goal.returns-in_err-push_outcome-clause-err
 returns-in_err-push_outcome-clause-err g c =
     let given = c.in_ok-answered.ensures.given in
     let left = comes_first _ c.in-Some.item _ _ c.in-Some.is c.in_ok-item.ensures.comes in
-    on_err c.from_residual-in_err-push_outcome.result (told_after 1 _ _ _ _ _ _ _ _ _ _ _ given.choice left c.loop-out.invariant.told given.counted given.is.its_state)
+    on_err c.from_residual-in_err-push_outcome.result (told_after 1 _ _ _ _ _ _ _ _ _ _ _ given.choice left c.loop-out.invariant.told (kept_by _ _ _ _ given.counted given.asks) given.is.its_state)
 
 pub loop-out-preserved : goal.loop-out-preserved
 loop-out-preserved g c =
     let is = c.in_ok-answered.ensures in
     let left = comes_first _ c.in-Some.item _ _ c.in-Some.is c.in_ok-item.ensures.comes in
-    let next = told_next 1 _ _ _ _ _ _ _ _ _ _ _ _ is.given.choice _ left c.loop-out.invariant.told is.given.counted is.given.is.its_outcome is.given.is.its_state c.in_ok-push_outcome.ensures in
+    let next = told_next 1 _ _ _ _ _ _ _ _ _ _ _ _ is.given.choice _ left c.loop-out.invariant.told (kept_by _ _ _ _ is.given.counted is.given.asks) is.given.is.its_outcome is.given.is.its_state c.in_ok-push_outcome.ensures in
     record { told = next; on = desk_on _ _ _ c.loop-out.invariant.on is.on }
 
 pub loop-out-preserved-in_ok-push_outcome : goal.loop-out-preserved-in_ok-push_outcome
 loop-out-preserved-in_ok-push_outcome g c =
     let is = c.in_ok-answered.ensures in
     let left = comes_first _ c.in-Some.item _ _ c.in-Some.is c.in_ok-item.ensures.comes in
-    let next = told_next 1 _ _ _ _ _ _ _ _ _ _ _ _ is.given.choice _ left c.loop-out.invariant.told is.given.counted is.given.is.its_outcome is.given.is.its_state c.in_ok-push_outcome.ensures in
+    let next = told_next 1 _ _ _ _ _ _ _ _ _ _ _ _ is.given.choice _ left c.loop-out.invariant.told (kept_by _ _ _ _ is.given.counted is.given.asks) is.given.is.its_outcome is.given.is.its_state c.in_ok-push_outcome.ensures in
     record { told = next; on = desk_on _ _ _ c.loop-out.invariant.on is.on }
 
 pub returns-in_err-push_closing-clause-err : goal.returns-in_err-push_closing-clause-err

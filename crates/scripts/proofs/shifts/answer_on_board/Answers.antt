@@ -1,4 +1,6 @@
 use Rattle.std.proofs.lemmas.Result.{IfOk-weaker}
+use Rattle.desk.proofs.AskedLaws.{keeper_later}
+use Rattle.desk.proofs.Choices.{kept_by}
 use Rattle.desk.proofs.InPart.{on_err}
 use Rattle.scripts.proofs.Answering.{answered_alone, answered_under, begun_alone, hears_on}
 use Rattle.scripts.proofs.shifts.answer_on_board.Goals as goal
@@ -6,7 +8,7 @@ use Rattle.scripts.proofs.shifts.answer_on_board.Goals as goal
 pub returns-in_err-answered-clause-err : goal.returns-in_err-answered-clause-err
 returns-in_err-answered-clause-err g c =
     let is = c.in_err-answered.ensures in
-    on_err c.from_residual.result (begun_alone _ _ _ _ _ is.on.keeper.health.later is.err)
+    on_err c.from_residual.result (begun_alone _ _ _ _ _ (keeper_later _ _ is.on.keeper) is.err)
 
 pub returns-in_err-answered-clause-hears : goal.returns-in_err-answered-clause-hears
 returns-in_err-answered-clause-hears g c = λ bells some. some
@@ -19,7 +21,7 @@ returns-clause-answered g c =
 pub returns-clause-err : goal.returns-clause-err
 returns-clause-err g c =
     let given = c.in_ok-answered.ensures.given in
-    on_err c.said_text.result (answered_alone _ _ _ _ _ given.choice given.counted given.is.its_state)
+    on_err c.said_text.result (answered_alone _ _ _ _ _ given.choice (kept_by _ _ _ _ given.counted given.asks) given.is.its_state)
 
 pub returns-clause-hears : goal.returns-clause-hears
 returns-clause-hears g c = λ bells some. hears_on bells _ _ _ some c.ring.ensures

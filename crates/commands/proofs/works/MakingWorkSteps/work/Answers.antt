@@ -8,13 +8,14 @@ use Rattle.commands.specs.Faults.{Outcome}
 use Rattle.commands.specs.Working.{Makes, since}
 use Rattle.commands.proofs.works.MakingWorkSteps.work.Goals as goal
 
-makes_since : (number count : ℕ) (desk : Over DeskAt) (answer : Outcome) → Makes number count desk answer → (less : ℕ) → less ≤ desk.before.faults → Makes number count (since less desk) answer
+makes_since : (number count : ℕ) (desk : Over DeskAt) (answer : Outcome) → Makes number count desk answer → (less : ℕ) → less ≤ desk.before.kept.faults → Makes number count (since less desk) answer
 makes_since number count desk answer makes less under = ends_map answer makes
     (λ text made. record {
       outcomes = made.outcomes;
       given = record {
         choices = made.given.choices;
-        counted = rise_lower less desk.before.faults (concat (map numbers_of made.given.choices)) desk.after.faults under made.given.counted;
+        counted = rise_lower less desk.before.kept.faults (concat (map numbers_of made.given.choices)) desk.after.kept.faults under made.given.counted;
+        stored = made.given.stored;
         outcomes = made.given.outcomes;
         state = made.given.state;
       };
@@ -22,7 +23,7 @@ makes_since number count desk answer makes less under = ends_map answer makes
     })
     (λ part. record {
       came = part.came;
-      given = items_lower less desk.before.faults desk.after.faults desk.before.state (made_items number count part.came) desk.after.state under part.given;
+      given = items_lower less desk.before.kept desk.after.kept desk.before.state (made_items number count part.came) desk.after.state under part.given;
     })
 
 pub returns-clause-does : goal.returns-clause-does

@@ -7,10 +7,10 @@ use Rattle.commands.specs.Sources.{first_of}
 use Rattle.commands.specs.Working.{Runs, since}
 use Rattle.commands.proofs.works.RunningWorkSteps.work.Goals as goal
 
-runs_since : (script : List ℕ) (desk : Over DeskAt) (answer : Outcome) → Runs script desk answer → (less : ℕ) → less ≤ desk.before.faults → Runs script (since less desk) answer
+runs_since : (script : List ℕ) (desk : Over DeskAt) (answer : Outcome) → Runs script desk answer → (less : ℕ) → less ≤ desk.before.kept.faults → Runs script (since less desk) answer
 runs_since script desk answer runs less under = ends_map answer runs
-    (λ text run. run_lower less desk.before.faults desk.after.faults desk.before.state script desk.after.state text under run)
-    (λ part. items_lower less desk.before.faults desk.after.faults desk.before.state (items_of (lines_of script)) desk.after.state under part)
+    (λ text run. run_lower less desk.before.kept desk.after.kept desk.before.state (items_of (lines_of script)) desk.after.state text under run)
+    (λ part. items_lower less desk.before.kept desk.after.kept desk.before.state (items_of (lines_of script)) desk.after.state under part)
 
 pub returns-clause-does : goal.returns-clause-does
 returns-clause-does g c = λ less under.
