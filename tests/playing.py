@@ -12,6 +12,8 @@ from datetime import datetime, timedelta, timezone
 from desks import KEYS, PATIENCE, RELEASE, REPLY, REPORT, asked, board, expect, expect_alone, hold, kept_calls, plan, shown, written
 
 CLIENTS = 16
+# the refusal of a call that couldn't be stored
+UNKEPT = 26
 ELSEWHERE = ("KGEG", "KBOI", "CYVR")
 
 
@@ -167,6 +169,9 @@ class Client(threading.Thread):
             self.cuts(call)
         status, said = over(self.service, self.connected(), asked, call)
         self.played.told(call, status, said)
+        if said.get("refused") == UNKEPT:
+            # Whether it was stored isn't known where a server keeps the rows, so the call stays open.
+            return None
         del self.played.open[self.place]
         if status == 200 and self.pick.random() < 0.05:
             again = over(self.service, self.connected(), asked, call)

@@ -4,11 +4,11 @@ use Rattle.std.specs.Option.{is_some}
 use Rattle.desk_io.specs.declared.rows.Row.{Row}
 use Rattle.desk_net.specs.declared.crossed.Crossed.{Crossed}
 use Rattle.pg_wire.specs.declared.session.Answer.{Answer}
-use Rattle.pg_wire.specs.Answers.{Told, silent, noted, told_by, told_of, ready}
+use Rattle.pg_wire.specs.Answers.{Told, HasAnswered, silent, noted, told_by, told_of, ready}
 use Rattle.pg_wire.specs.Backend.{Message, head_bytes, message_bytes, all_bytes, TakesContent}
 use Rattle.pg_wire.specs.Crossing.{came, took}
 use Rattle.pg_wire.proofs.Settling.{bytes_more, told_more, one_kept}
-use Rattle.pg_keeper.specs.Loads.{row_content, data_in, others_in, contents_of, load_request, HasSent, TakesRow, Loads, LoadsOver}
+use Rattle.pg_keeper.specs.Loads.{row_content, data_in, others_in, contents_of, load_request, limit_request, HasSent, TakesRow, Loads, LoadsOver, Limits}
 
 -- a DataRow is the last
 data_row : (ms : List Message) (content : List ℕ) → data_in (ms ++ (68, content) ∷ []) ≡ data_in ms ++ content ∷ []
@@ -122,8 +122,14 @@ pub loads : (old mid new : List Crossed) (rows : List Row) → took mid ≡ took
 loads old mid new rows asked same still sent =
     record { asked = still ∙ asked; sent = subst (λ l. HasSent l (came new) rows) same sent }
 
-pub loads_opened : (link : Option (List Crossed)) (opened new : List Crossed) (rows : List Row) → link ≡ None → Loads opened new rows → LoadsOver link (Some new) rows
-loads_opened link opened new rows none made = subst (λ l. LoadsOver l (Some new) rows) (sym none) (opened, made)
+pub loads_opened : (link : Option (List Crossed)) (opened loaded new : List Crossed) (rows : List Row) → link ≡ None → Loads opened loaded rows → Limits loaded new
+    → LoadsOver link (Some new) rows
+loads_opened link opened loaded new rows none made limited = subst (λ l. LoadsOver l (Some new) rows) (sym none) (opened, loaded, made, limited)
+
+pub limits : (old mid new : List Crossed) (a : Answer) → took mid ≡ took old ++ limit_request → came mid ≡ came old → took new ≡ took mid
+    → HasAnswered (came mid) (came new) (told_of a) → a.refused ≡ None → Limits old new
+limits old mid new a asked same still answered none =
+    record { asked = still ∙ asked; told = told_of a; answered = subst (λ l. HasAnswered l (came new) (told_of a)) same answered; calm = ap is_some none }
 
 pub loads_again : (link : Option (List Crossed)) (old new : List Crossed) (rows : List Row) → link ≡ Some old → Loads old new rows → LoadsOver link (Some new) rows
 loads_again link old new rows some made = subst (λ l. LoadsOver l (Some new) rows) (sym some) made

@@ -1,9 +1,9 @@
 -- The request of a load, and the rows that answer it.
-use Rattle.std.specs.Prelude.{◌≡◌, ℕ, ◌==◌, false, if◌then◌else◌, List, [], ◌∷◌, ◌++◌, length, map, Option, None, Some}
+use Rattle.std.specs.Prelude.{◌≡◌, ℕ, ◌==◌, false, if◌then◌else◌, List, [], ◌∷◌, ◌++◌, length, map, codes, Option, None, Some}
 use Rattle.std.specs.Int.{w32, w64, to_be_bytes}
 use Rattle.desk_io.specs.declared.rows.Row.{Row}
 use Rattle.desk_net.specs.declared.crossed.Crossed.{Crossed}
-use Rattle.pg_wire.specs.Answers.{Told, silent, told_by, ready}
+use Rattle.pg_wire.specs.Answers.{Told, HasAnswered, silent, told_by, ready}
 use Rattle.pg_wire.specs.Backend.{Message, all_bytes}
 use Rattle.pg_wire.specs.Crossing.{came, took}
 use Rattle.pg_wire.specs.Frontend.{bind, execute, sync}
@@ -55,8 +55,19 @@ pub record Loads (old new : List Crossed) (rows : List Row) : Type 0 where
   pub asked : took new ≡ took old ++ load_request
   pub sent : HasSent (came old) (came new) rows
 
--- The same over the link that is open, or over one that was opened for it.
+-- the query that limits each later statement to five seconds
+abbrev pub limit_request : List ℕ
+limit_request = 81 ∷ to_be_bytes w32 33 ++ codes "set statement_timeout = 5000" ++ 0 ∷ []
+
+-- The limit was asked for, and the server did it.
+pub record Limits (old new : List Crossed) : Type 0 where
+  pub asked : took new ≡ took old ++ limit_request
+  pub told : Told
+  pub answered : HasAnswered (came old) (came new) told
+  pub calm : told.failed ≡ false
+
+-- The same over the link that is open, or over one that was opened for it, whose later statements were then limited.
 abbrev pub LoadsOver : Option (List Crossed) → Option (List Crossed) → List Row → Type 0
 LoadsOver old None rows = ⊥
-LoadsOver None (Some new) rows = (opened : List Crossed) × Loads opened new rows
+LoadsOver None (Some new) rows = (opened loaded : List Crossed) × Loads opened loaded rows × Limits loaded new
 LoadsOver (Some old) (Some new) rows = Loads old new rows

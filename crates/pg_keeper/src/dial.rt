@@ -1,3 +1,4 @@
+use crate::answer_stream::AnswerStream;
 use desk_io::Failed;
 use desk_net::{Link, TcpLink};
 use std::net::{Net, OpenStream, SocketAddr};
@@ -6,7 +7,7 @@ use std::time::Duration;
 use std::{io, time};
 
 /// How many seconds a connection may take to be made.
-pub const DIAL_SECONDS: u64 = 10;
+pub const DIAL_SECONDS: u64 = 5;
 
 /// Makes connections to the server.
 pub trait Dial {
@@ -20,25 +21,28 @@ pub trait Dial {
     fn nonce(&mut self) -> Result<[u8; 24], Failed>;
 }
 
-/// Connects over TCP. A connection must be made within `DIAL_SECONDS`; each read and write of its link then has the
-/// link's own timeout. The bytes aren't encrypted: use a private network or a tunnel.
+/// Connects over TCP. A connection must be made within `DIAL_SECONDS`, and an answer over it must be whole in the time
+/// that `AnswerStream` tells. The bytes aren't encrypted: use the same machine, a private network or a tunnel.
 #[derive(Drop)]
 pub struct TcpDial<R: Net + RandomSource + time::Clock + Copy> {
     net: R,
-    address: SocketAddr,
+    address: Option<SocketAddr>,
 }
 
 impl<R: Net + RandomSource + time::Clock + Copy> TcpDial<R> {
-    /// Creates a dial to this address. Connects to nothing yet.
-    pub fn new(net: R, address: SocketAddr) -> Self {
+    /// Creates a dial to this address. Connects to nothing yet. Without an address each dial fails.
+    pub fn new(net: R, address: Option<SocketAddr>) -> Self {
         TcpDial { net, address }
     }
 
-    fn connected(&self) -> io::Result<TcpLink<R::Stream, R>> {
+    fn connected(&self) -> io::Result<TcpLink<AnswerStream<R::Stream, R>, R>> {
+        let Some(address) = self.address else {
+            return Err(io::Error::from(io::ErrorKind::NotConnected));
+        };
         let limit = Duration::from_secs(DIAL_SECONDS);
-        let stream = self.net.connect_timeout(self.address, limit)?;
+        let stream = self.net.connect_timeout(address, limit)?;
         stream.set_nodelay(true)?;
-        TcpLink::new(stream, self.net)
+        TcpLink::new(AnswerStream::new(stream, self.net), self.net)
     }
 
     fn drawn(&self) -> io::Result<[u8; 24]> {
@@ -49,9 +53,9 @@ impl<R: Net + RandomSource + time::Clock + Copy> TcpDial<R> {
 }
 
 impl<R: Net + RandomSource + time::Clock + Copy> Dial for TcpDial<R> {
-    type Link = TcpLink<R::Stream, R>;
+    type Link = TcpLink<AnswerStream<R::Stream, R>, R>;
 
-    fn dial(&mut self) -> Result<TcpLink<R::Stream, R>, Failed> {
+    fn dial(&mut self) -> Result<TcpLink<AnswerStream<R::Stream, R>, R>, Failed> {
         match self.connected() {
             Ok(link) => Ok(link),
             Err(_) => Err(Failed),

@@ -18,11 +18,27 @@ pub enum Cause {
     NotOpened,
     /// Another desk holds the lock.
     Locked,
-    /// The server, its settings or its table aren't fit for a desk.
-    Unfit,
+    /// The server didn't prove that it knows the password.
+    Unproved,
+    /// The server is older than version 13.
+    Version,
+    /// The database or the session isn't encoded in UTF-8.
+    Encoding,
+    /// The setting `standard_conforming_strings` is off.
+    Strings,
+    /// The server is a standby, which takes no changes.
+    Standby,
+    /// Transactions aren't at the level `read committed`, or take no changes.
+    Isolation,
+    /// The server doesn't flush each commit to the disk.
+    Unflushed,
+    /// Commits don't wait for a standby.
+    NoStandby,
+    /// The table `kept` isn't the desk's.
+    ForeignTable,
     /// The server refused, under this SQLSTATE.
     Refused([u8; 5]),
-    /// The connection failed, or its bytes make no sense.
+    /// The connection failed, the answer took too long, or its bytes make no sense.
     Lost,
     /// An earlier call lost the connection.
     Broken,
@@ -72,7 +88,7 @@ impl From<SendFault> for Trouble {
 impl From<ScramFault> for Trouble {
     fn from(fault: ScramFault) -> Self {
         match fault {
-            ScramFault::Unreadable => Trouble::Failed(Cause::Unfit),
+            ScramFault::Unreadable => Trouble::Failed(Cause::Unproved),
             ScramFault::OutOfMemory => Trouble::OutOfMemory,
         }
     }

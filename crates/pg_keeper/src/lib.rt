@@ -1,6 +1,7 @@
 //! Keeps the desk's rows in one table of a PostgreSQL database.
 #![tactic(auto)]
 
+mod answer_stream;
 mod batch;
 mod dial;
 mod ending;
@@ -11,6 +12,7 @@ mod rows;
 #[cfg(test)]
 mod tests;
 
+pub use answer_stream::{ANSWER_MILLIS, AnswerStream, BYTES_A_MILLI};
 pub use dial::{Dial, TcpDial};
 pub use ending::Cause;
 pub use opening::Account;

@@ -67,8 +67,28 @@ fn noted(settings: Settings, content: &[u8]) -> Settings {
     settings
 }
 
-fn are_fit(settings: Settings) -> bool {
-    settings.version && settings.encoding && settings.client && settings.strings
+// Why the server can't serve a desk, if it can't.
+fn unfit(settings: Settings) -> Option<Cause> {
+    if !settings.version {
+        Some(Cause::Version)
+    } else if !(settings.encoding && settings.client) {
+        Some(Cause::Encoding)
+    } else if !settings.strings {
+        Some(Cause::Strings)
+    } else {
+        None
+    }
+}
+
+// What the login comes to once the server is ready.
+fn ended(progress: &Progress, settings: Settings) -> Result<(), Trouble> {
+    if !progress.is_in {
+        return Err(Trouble::Failed(Cause::Unproved));
+    }
+    match unfit(settings) {
+        Some(cause) => Err(Trouble::Failed(cause)),
+        None => Ok(()),
+    }
 }
 
 // Whether the server offers the mechanism.
@@ -121,7 +141,7 @@ fn step<L: Link>(
     match content {
         [0, 0, 0, 0] => {
             if !progress.is_known {
-                return Err(Trouble::Failed(Cause::Unfit));
+                return Err(Trouble::Failed(Cause::Unproved));
             }
             progress.is_in = true;
         }
@@ -137,7 +157,7 @@ fn step<L: Link>(
         }
         [0, 0, 0, 12, last @ ..] => {
             if !is_proved(&progress.answer, last) {
-                return Err(Trouble::Failed(Cause::Unfit));
+                return Err(Trouble::Failed(Cause::Unproved));
             }
             progress.is_known = true;
         }
@@ -170,8 +190,7 @@ pub fn log_in<L: Link>(alloc: Global, link: &mut L, login: Login<'_>) -> Result<
             b'S' => settings = noted(settings, front),
             b'K' | b'N' => {}
             b'E' => return Err(Trouble::Failed(Cause::Refused(sqlstate(front)))),
-            b'Z' if progress.is_in && are_fit(settings) => return Ok(()),
-            b'Z' => return Err(Trouble::Failed(Cause::Unfit)),
+            b'Z' => return ended(&progress, settings),
             _ => return Err(Trouble::from(Lost)),
         }
     }

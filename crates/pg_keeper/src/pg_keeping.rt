@@ -15,12 +15,16 @@ ghost use Rattle.pg_keeper.specs.Loads.{LoadsOver};
 use crate::batch::batch_of;
 use crate::dial::Dial;
 use crate::ending::{Cause, Ending, Trouble, is_lost, made_over, outcome_of};
-use crate::opening::{Account, opened};
+use crate::opening::{Account, limit, opened};
 use crate::rows::all_rows;
-use desk_io::{Change, Record, Row};
+use desk_io::{Change, Record, Row, Text};
+use desk_net::Link;
 use keeper::{AccountEntry, Committed, KeepFault, Keeper, Loaded, NotLoaded, Outcome};
-use pg_wire::WriteFault;
+use pg_wire::{WriteFault, send};
 use std::alloc::Global;
+
+// The message that ends a session.
+const TERMINATE: &[u8] = b"X\0\0\0\x04";
 
 /// Keeps rows in the table `kept` of a PostgreSQL database. Contracts don't know the rows, but exactly what each commit
 /// sent, what the server answered, and what the account says of it. Every failure is a counted fault, except out of
@@ -41,6 +45,7 @@ pub struct PgKeeper<D: Dial + Drop> {
     account: Record<AccountEntry>,
     faults: u64,
     cause: Option<Cause>,
+    holder: Option<Text>,
     ghost counted: { commits ≡ count_of account.list },
 }
 
@@ -62,6 +67,7 @@ impl<D: Dial + Drop> PgKeeper<D> {
             account: Record::new(),
             faults: 0,
             cause: None,
+            holder: None,
         }
     }
 
@@ -70,6 +76,22 @@ impl<D: Dial + Drop> PgKeeper<D> {
         ensures { result ≡ self.now.cause }
     {
         self.cause
+    }
+
+    /// Returns which session held the lock, if the opening asked for it.
+    pub fn holder(&self) -> &Option<Text> {
+        &self.holder
+    }
+
+    /// Ends the session, so that the server releases the lock.
+    pub fn leave(self) {
+        let PgKeeper { link, broken, .. } = self;
+        if let Some(mut link) = link
+            && !broken
+        {
+            let _ = send(&mut link, TERMINATE);
+            link.end();
+        }
     }
 
     /// Returns whether the connection was lost, so that the keeper refuses each call.
@@ -146,7 +168,7 @@ impl<D: Dial + Drop> PgKeeper<D> {
         }
     }
 
-    // Connects, and keeps the connection if its rows can be read.
+    // Connects, and keeps the connection if its rows can be read and its later statements are limited.
     fn open_rows(&mut self, alloc: Global) -> Result<Vec<Row>, Trouble>
         ensures rising { IfOk result (λ rows. IsTrue (rising rows.items)) }
         ensures loaded { self.old.link ≡ None → IfOk result (λ rows. LoadsOver
@@ -157,8 +179,9 @@ impl<D: Dial + Drop> PgKeeper<D> {
         ensures commits { self.new.commits ≡ self.old.commits }
         ensures account { self.new.account.list ≡ self.old.account.list }
     {
-        let mut link = opened(alloc, &mut self.dial, &self.login)?;
+        let mut link = opened(alloc, &mut self.dial, &self.login, &mut self.holder)?;
         let rows = all_rows(alloc, &mut link)?;
+        limit(&mut link)?;
         self.link = Some(link);
         Ok(rows)
     }

@@ -57,6 +57,18 @@ const TRUE: &[u8] =
 const FALSE: &[u8] =
     b"T\0\0\0\x07\0\x01xD\0\0\0\x0b\0\x01\0\0\0\x01fC\0\0\0\x0dSELECT 1\0Z\0\0\0\x05I";
 
+// The answers to the three questions about the server and its settings.
+const INSPECTED: &[u8] =
+    b"T\0\0\0\x07\0\x01xD\0\0\0\x0b\0\x01\0\0\0\x01tC\0\0\0\x0dSELECT 1\0Z\0\0\0\x05I\
+T\0\0\0\x07\0\x01xD\0\0\0\x0b\0\x01\0\0\0\x01tC\0\0\0\x0dSELECT 1\0Z\0\0\0\x05I\
+T\0\0\0\x07\0\x01xD\0\0\0\x0b\0\x01\0\0\0\x01tC\0\0\0\x0dSELECT 1\0Z\0\0\0\x05I";
+
+// The lock isn't free, and the text that tells who holds it.
+const TAKEN: &[u8] = b"E\0\0\0\x13SERROR\0C55P03\0\0Z\0\0\0\x05I";
+
+const HELD: &[u8] =
+    b"T\0\0\0\x07\0\x01xD\0\0\0\x13\0\x01\0\0\0\x09process 7C\0\0\0\x0dSELECT 1\0Z\0\0\0\x05I";
+
 const TABLE: &[u8] = b"C\0\0\0\x11CREATE TABLE\0Z\0\0\0\x05I";
 
 const PREPARED: &[u8] = b"1\0\0\0\x041\0\0\0\x041\0\0\0\x04Z\0\0\0\x05I";
@@ -74,6 +86,9 @@ D\0\0\0\x1d\0\x03\0\0\0\x02\0\x03\0\0\0\x08\0\0\0\0\0\0\0\x04\0\0\0\x01bC\0\0\0\
 
 const TWO_COLUMNS: &[u8] =
     b"2\0\0\0\x04D\0\0\0\x12\0\x02\0\0\0\x02\0\0\0\0\0\x02\0\0C\0\0\0\x0dSELECT 1\0Z\0\0\0\x05I";
+
+// The answer to the limit of later statements.
+const LIMITED: &[u8] = b"C\0\0\0\x08SET\0Z\0\0\0\x05I";
 
 // Answers to a commit of one change.
 const DONE: &[u8] = b"2\0\0\0\x04C\0\0\0\x0dDELETE 0\0Z\0\0\0\x05I";
@@ -116,10 +131,15 @@ fn joined(alloc: Global, pieces: &[&[u8]]) -> Result<Vec<u8>, OutOfMemory> {
 }
 
 fn account(alloc: Global, password: &[u8]) -> Result<Account, OutOfMemory> {
+    account_with(alloc, password, false)
+}
+
+fn account_with(alloc: Global, password: &[u8], standby: bool) -> Result<Account, OutOfMemory> {
     Ok(Account {
         user: Text::of(alloc, b"desk")?,
         database: Text::of(alloc, b"desk")?,
         password: Text::of(alloc, password)?,
+        standby,
     })
 }
 
@@ -159,7 +179,7 @@ fn fails_for(alloc: Global, password: &[u8], pieces: &[&[u8]], cause: Cause) -> 
 fn commit_with(alloc: Global, answer: &[u8], cause: Cause, is_broken: bool) -> bool {
     let rest: &[u8] = if is_broken { b"" } else { DONE };
     let pieces = [
-        LET_IN, FIT, TRUE, TABLE, TRUE, PREPARED, NO_ROWS, answer, rest,
+        LET_IN, FIT, INSPECTED, TRUE, TABLE, TRUE, PREPARED, NO_ROWS, LIMITED, answer, rest,
     ];
     let Ok(mut keeper) = keeper(alloc, b"", &pieces) else {
         return false;
@@ -184,7 +204,7 @@ fn commit_with(alloc: Global, answer: &[u8], cause: Cause, is_broken: bool) -> b
 fn loads_and_commits(rt: HostRuntime) -> Result<(), Fail> {
     let alloc = rt.alloc();
     let pieces = [
-        LET_IN, FIT, TRUE, TABLE, TRUE, PREPARED, TWO_ROWS, DONE, NO_ROWS,
+        LET_IN, FIT, INSPECTED, TRUE, TABLE, TRUE, PREPARED, TWO_ROWS, LIMITED, DONE, NO_ROWS,
     ];
     let Ok(mut keeper) = keeper(alloc, b"", &pieces) else {
         return Ok(());
@@ -207,11 +227,13 @@ fn logs_in_by_password(rt: HostRuntime) -> Result<(), Fail> {
         SCRAM_LAST,
         LET_IN,
         FIT,
+        INSPECTED,
         TRUE,
         TABLE,
         TRUE,
         PREPARED,
         NO_ROWS,
+        LIMITED,
     ];
     let Ok(mut keeper) = keeper(alloc, b"pencil", &pieces) else {
         return Ok(());
@@ -224,7 +246,7 @@ fn logs_in_by_password(rt: HostRuntime) -> Result<(), Fail> {
             alloc,
             b"pencil",
             &[OFFER, SCRAM_FIRST, WRONG_LAST, LET_IN, FIT],
-            Cause::Unfit
+            Cause::Unproved
         )
     );
     assert!(rt;
@@ -232,10 +254,10 @@ fn logs_in_by_password(rt: HostRuntime) -> Result<(), Fail> {
             alloc,
             b"pencil",
             &[OFFER, SCRAM_FIRST, LET_IN, FIT],
-            Cause::Unfit
+            Cause::Unproved
         )
     );
-    assert!(rt; fails_for(alloc, b"pencil", &[LET_IN, FIT], Cause::Unfit));
+    assert!(rt; fails_for(alloc, b"pencil", &[LET_IN, FIT], Cause::Unproved));
     let other = Cause::Refused(*b"28000");
     assert!(rt; fails_for(alloc, b"pencil", &[OTHER_OFFER], other));
     Ok(())
@@ -244,15 +266,69 @@ fn logs_in_by_password(rt: HostRuntime) -> Result<(), Fail> {
 #[test]
 fn refuses_other_servers(rt: HostRuntime) -> Result<(), Fail> {
     let alloc = rt.alloc();
-    assert!(rt; fails_for(alloc, b"", &[LET_IN, OLD_SERVER], Cause::Unfit));
-    assert!(rt; fails_for(alloc, b"", &[LET_IN, OTHER_ENCODING], Cause::Unfit));
-    assert!(rt; fails_for(alloc, b"", &[LET_IN, FIT, FALSE], Cause::Locked));
-    assert!(rt; fails_for(alloc, b"", &[LET_IN, FIT, TRUE, TABLE, FALSE], Cause::Unfit));
-    assert!(rt; fails_for(alloc, b"", &[LET_IN, FIT, TRUE, TABLE], Cause::Lost));
-    let opened = [LET_IN, FIT, TRUE, TABLE, TRUE, PREPARED, FALLING];
+    assert!(rt; fails_for(alloc, b"", &[LET_IN, OLD_SERVER], Cause::Version));
+    assert!(rt; fails_for(alloc, b"", &[LET_IN, OTHER_ENCODING], Cause::Encoding));
+    assert!(rt; fails_for(alloc, b"", &[LET_IN, FIT, FALSE], Cause::Standby));
+    assert!(rt; fails_for(alloc, b"", &[LET_IN, FIT, TRUE, FALSE], Cause::Isolation));
+    assert!(rt;
+        fails_for(
+            alloc,
+            b"",
+            &[LET_IN, FIT, TRUE, TRUE, FALSE],
+            Cause::Unflushed
+        )
+    );
+    let lock = [LET_IN, FIT, INSPECTED, FALSE];
+    assert!(rt; fails_for(alloc, b"", &lock, Cause::Locked));
+    let other = [LET_IN, FIT, INSPECTED, TRUE, TABLE, FALSE];
+    assert!(rt; fails_for(alloc, b"", &other, Cause::ForeignTable));
+    let cut = [LET_IN, FIT, INSPECTED, TRUE, TABLE];
+    assert!(rt; fails_for(alloc, b"", &cut, Cause::Lost));
+    let opened = [LET_IN, FIT, INSPECTED, TRUE, TABLE, TRUE, PREPARED, FALLING];
     assert!(rt; fails_for(alloc, b"", &opened, Cause::Lost));
-    let opened = [LET_IN, FIT, TRUE, TABLE, TRUE, PREPARED, TWO_COLUMNS];
+    let opened = [
+        LET_IN,
+        FIT,
+        INSPECTED,
+        TRUE,
+        TABLE,
+        TRUE,
+        PREPARED,
+        TWO_COLUMNS,
+    ];
     assert!(rt; fails_for(alloc, b"", &opened, Cause::Lost));
+    Ok(())
+}
+
+// Whether a load over this input fails for the cause, with a standby required, and who it says holds the lock.
+fn is_refused(
+    alloc: Global,
+    pieces: &[&[u8]],
+    cause: Cause,
+    holder: &[u8],
+) -> Result<bool, OutOfMemory> {
+    let dial = Planned {
+        alloc,
+        input: joined(alloc, pieces)?,
+        cut: 7,
+        fail: Vec::new(alloc),
+    };
+    let mut keeper = PgKeeper::new(dial, account_with(alloc, b"", true)?);
+    let loaded = rows_of(alloc, &mut keeper);
+    let told = match keeper.holder() {
+        Some(text) => text.bytes() == holder,
+        None => holder.is_empty(),
+    };
+    Ok(loaded == Err(KeepFault::Failed) && keeper.cause() == Some(cause) && told)
+}
+
+#[test]
+fn wants_a_standby_and_the_lock(rt: HostRuntime) -> Result<(), Fail> {
+    let alloc = rt.alloc();
+    let alone = [LET_IN, FIT, INSPECTED, FALSE];
+    assert!(rt; is_refused(alloc, &alone, Cause::NoStandby, b"") == Ok(true));
+    let taken = [LET_IN, FIT, INSPECTED, TRUE, TAKEN, HELD];
+    assert!(rt; is_refused(alloc, &taken, Cause::Locked, b"process 7") == Ok(true));
     Ok(())
 }
 
@@ -269,12 +345,12 @@ fn refuses_and_breaks(rt: HostRuntime) -> Result<(), Fail> {
 }
 
 // The number of calls of a link, in an opening that ends with `NO_ROWS`, if each read returns all that is asked.
-const OPENING_CALLS: u64 = 74;
+const OPENING_CALLS: u64 = 120;
 
 // A commit fails if the call of this number after the opening fails. The keeper is broken then.
 fn is_lost_at(alloc: Global, call: u64) -> Result<bool, OutOfMemory> {
     let pieces = [
-        LET_IN, FIT, TRUE, TABLE, TRUE, PREPARED, NO_ROWS, DONE, DONE,
+        LET_IN, FIT, INSPECTED, TRUE, TABLE, TRUE, PREPARED, NO_ROWS, LIMITED, DONE, DONE,
     ];
     let input = joined(alloc, &pieces)?;
     let login = account(alloc, b"")?;

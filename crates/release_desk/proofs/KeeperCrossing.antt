@@ -93,6 +93,9 @@ use Rattle.sqlite_disk.specs.contracts.start.Unknown as Unknown
 use Rattle.sqlite_std_file.specs.contracts.record.Record as Record
 use Rattle.sqlite_std_file.specs.contracts.host.Host as Host
 use Rattle.sqlite_disk.specs.contracts.modelled.Modelled as Modelled
+use Rattle.desk_net.proofs.Crossing.{TcpLink_send}
+use Rattle.chosen_keeper.proofs.Crossing.{KeeperOver_field_send, PgKeeper_field_send, TcpDial_send, AnswerStream_send}
+use Rattle.chosen_keeper.specs.contracts.either.EitherKeeper as EitherKeeper
 use Rattle.sqlite_keeper.proofs.Crossing.{KeeperOver_send}
 use Rattle.sqlite_keeper.specs.contracts.file.KeeperOver as KeeperOver
 use Rattle.sqlite_disk.specs.declared.Disk as Disk
@@ -380,3 +383,7 @@ pub SqliteKeeper_send : (c : Calls.Ghosts Host.the_row.Denot) → (s : Start.Gho
     → IsSend (KeeperOver.the_row (Connection.the_row (FileStore.the_row (Modelled.the_row Host.the_row Unknown.the_row c s) d) t))
 SqliteKeeper_send c s d t =
     KeeperOver_send _ (Connection_send _ (FileStore_send _ (Modelled_send _ _ Host_send Unknown_send c s) d) t)
+
+-- The keeper of rows in a file, or at a server.
+pub EitherKeeper_send : IsSend EitherKeeper.the_row
+EitherKeeper_send = search (sendable, crosses, KeeperOver_field_send, Connection_send, FileStore_send, Modelled_send, Host_send, Unknown_send, PgKeeper_field_send, TcpDial_send, AnswerStream_send, TcpLink_send) depth 60 fits 9000

@@ -2,18 +2,21 @@
 #![tactic(auto)]
 
 mod busy_gate;
+mod choice;
+mod reasons;
 mod shipped;
 mod stderr_bell;
 mod stderr_progress;
 
 use crate::busy_gate::BusyGate;
+use crate::choice::{Choice, chosen, leave};
+use crate::reasons::tell_why;
 use crate::shipped::{DeskBell, run_shipped};
 use crate::stderr_bell::StderrBell;
 use crate::stderr_progress::StderrProgress;
 use commands::{Ending, WORKERS};
 use desk_io::{FileShelf, OutOfMemory, StdoutSink, Text};
 use desk_net::{SystemClock, TcpDoor};
-use sqlite_keeper::SqliteKeeper;
 use std::alloc::AllocError;
 use std::env;
 use std::io::{ErrorKind, IsTerminal};
@@ -35,11 +38,8 @@ fn words_of(rt: &HostRuntime) -> Result<Vec<String>, AllocError> {
     }
 }
 
-// The keeper of the desk's rows, which are stored in `desk.db` in the working directory.
-fn keeper_of(rt: HostRuntime) -> Result<SqliteKeeper, AllocError> {
-    let path = String::from_str(rt.alloc(), "desk.db")?;
-    Ok(SqliteKeeper::new(rt, path))
-}
+// The status of a keeper that failed.
+const KEEPER_FAULT: u8 = 5;
 
 // The only bell, which prints the notices for all dispatchers to standard error.
 fn bells_of(rt: HostRuntime) -> Result<Vec<DeskBell>, OutOfMemory> {
@@ -58,9 +58,10 @@ fn is_staying(words: &[String]) -> bool {
 }
 
 fn main(rt: HostRuntime) -> ExitCode {
-    let (Ok(words), Ok(keeper), Ok(bells)) = (words_of(&rt), keeper_of(rt), bells_of(rt)) else {
+    let (Ok(words), Ok(choice), Ok(bells)) = (words_of(&rt), chosen(rt), bells_of(rt)) else {
         return ExitCode::from(8);
     };
+    let Choice { keeper, reason } = choice;
     let mut shelf = FileShelf::new(rt);
     let mut out = StdoutSink::new(rt);
     let clock = SystemClock::new(rt);
@@ -81,7 +82,9 @@ fn main(rt: HostRuntime) -> ExitCode {
         &gate,
         bells,
     );
-    // If this fails, the write-ahead log still holds what isn't in the file.
-    let _ = keeper.leave();
+    if status == KEEPER_FAULT {
+        let _ = tell_why(&rt, &reason, &keeper);
+    }
+    leave(keeper);
     ExitCode::from(status)
 }

@@ -9,11 +9,11 @@ use crate::busy_gate::BusyGate;
 use crate::stderr_bell::StderrBell;
 use crate::stderr_progress::StderrProgress;
 use alerts::Bell;
+use chosen_keeper::EitherKeeper;
 use commands::{Ending, desk_main};
 use desk_io::{FileShelf, Shelf, Sink, StdoutSink};
 use desk_net::{Clock, Door, Link, SystemClock, TcpDoor};
 use keeper::Keeper;
-use sqlite_keeper::SqliteKeeper;
 use std::alloc::Global;
 use std::sync::Wait;
 use std::thread::Threads;
@@ -24,18 +24,20 @@ pub(crate) type DeskBell = StderrBell<HostRuntime, HostRuntime>;
 
 /// How the shipped program ends.
 pub(crate) type Shipped<'a> = Ending<
-    SqliteKeeper,
+    EitherKeeper,
     SystemClock<HostRuntime>,
     TcpDoor<TimedNet<'a, HostRuntime>>,
     DeskBell,
 >;
 
-/// Runs the command in the arguments over files, standard output, the system's clock, SQLite, TCP and standard error.
-/// The contract is about what the calls of files, standard output, the clock and SQLite returned and accepted, as each
-/// of them records it: the tables and the scripts are those that the files returned. It doesn't say what crossed TCP,
-/// or what the bells and the progress printed. Apart from starting threads, nothing reaches the machine except through
-/// these objects.
-#[tactic(auto, using(crate::proofs::KeeperCrossing::SqliteKeeper_send, crate::proofs::BellCrossing::StderrBell_send))]
+/// Runs the command in the arguments over files, standard output, the system's clock, the chosen keeper, TCP and standard
+/// error.
+///
+/// The contract is about what the calls of files, standard output, the clock, the keeper and TCP returned and accepted, as
+/// each of them records it: the tables and the scripts are those that the files returned, and the requests and responses
+/// are those that crossed each connection. It doesn't say what the bells and the progress printed. Apart from starting
+/// threads, nothing reaches the machine except through these objects.
+#[tactic(auto, using(crate::proofs::KeeperCrossing::EitherKeeper_send, crate::proofs::BellCrossing::StderrBell_send))]
 pub(crate) fn run_shipped<'a, R: Threads + Wait + Sync>(
     threads: &R,
     alloc: Global,
@@ -43,7 +45,7 @@ pub(crate) fn run_shipped<'a, R: Threads + Wait + Sync>(
     shelf: &mut FileShelf<HostRuntime>,
     out: &mut StdoutSink<HostRuntime>,
     clock: SystemClock<HostRuntime>,
-    keeper: SqliteKeeper,
+    keeper: EitherKeeper,
     door: TcpDoor<TimedNet<'a, HostRuntime>>,
     gate: &BusyGate<'a, StderrProgress<HostRuntime>>,
     bells: Vec<DeskBell>,
@@ -53,7 +55,7 @@ pub(crate) fn run_shipped<'a, R: Threads + Wait + Sync>(
         (over ⟦<StdoutSink<HostRuntime> as Sink>⟧.seen out.old out.new)
         (service ⟦<SystemClock<HostRuntime> as Clock>⟧.seen ⟦<TcpDoor<TimedNet<'a, HostRuntime>> as Door>⟧.seen
         ⟦<<TcpDoor<TimedNet<'a, HostRuntime>> as Door>::Link as Link>⟧.seen clock result.clock door.entry result.door)
-        (lent ⟦<SqliteKeeper as Keeper>⟧.seen keeper result.keeper)
+        (lent ⟦<EitherKeeper as Keeper>⟧.seen keeper result.keeper)
         (map ⟦<DeskBell as Bell>⟧.seen bells.items) (map ⟦<DeskBell as Bell>⟧.seen result.bells.items)
         (map (dropped_seen ⟦<DeskBell as Bell>⟧.seen) result.dropped.items)
         result.board result.status }

@@ -5,4 +5,4 @@ use Rattle.pg_keeper.proofs.pg_keeping.PgKeeper.open_rows.Goals as goal
 
 pub returns-clause-loaded : goal.returns-clause-loaded
 returns-clause-loaded g c none =
-    loads_opened _ _ _ _ (ap (option_map (λ l. (g.D.Link.Link.seen l).crossed)) none) c.in_ok-rows.ensures.loaded
+    loads_opened _ _ _ _ _ (ap (option_map (λ l. (g.D.Link.Link.seen l).crossed)) none) c.in_ok-rows.ensures.loaded c.in_ok-limit.ensures

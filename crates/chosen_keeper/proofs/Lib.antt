@@ -1,0 +1,2 @@
+pub mod ConfLaws
+pub mod Crossing
