@@ -109,6 +109,10 @@ class Played:
             setattr(self, what, getattr(self, what) + by)
 
 
+class Unkept(Exception):
+    """A call couldn't be stored. Where a server keeps the rows, it may be there all the same: it stays open, and the client makes no other."""
+
+
 class Client(threading.Thread):
     """One client of a service, until its time is up or the service is killed, or so many connections were opened. It begins with the call
     to which it has no answer yet."""
@@ -119,7 +123,7 @@ class Client(threading.Thread):
         self.pick, self.numbers = random.Random(played.pick.random()), played.numbers[place]
         self.link, self.ends_at = None, 0.0
         self.mine = {}
-        self.fault = None
+        self.fault, self.is_unkept = None, False
 
     def run(self):
         try:
@@ -127,6 +131,8 @@ class Client(threading.Thread):
                 self.tell(self.played.open[self.place])
             while not self.is_over():
                 self.act()
+        except Unkept:
+            self.is_unkept = True
         except Exception as fault:  # told by the thread that joins this one
             self.fault = fault
         finally:
@@ -170,8 +176,7 @@ class Client(threading.Thread):
         status, said = over(self.service, self.connected(), asked, call)
         self.played.told(call, status, said)
         if said.get("refused") == UNKEPT:
-            # Whether it was stored isn't known where a server keeps the rows, so the call stays open.
-            return None
+            raise Unkept
         del self.played.open[self.place]
         if status == 200 and self.pick.random() < 0.05:
             again = over(self.service, self.connected(), asked, call)
@@ -248,12 +253,14 @@ def clients_of(service, played, seconds, most=math.inf):
     return clients
 
 
-def expect_over(clients, seconds, is_killed=False):
-    """All clients end within some seconds and without a fault. Where the service was killed, each may have lost its connection."""
+def expect_over(clients, seconds, is_killed=False, keeps=True):
+    """All clients end within some seconds and without a fault. Where the service was killed, each may have lost its connection; where its
+    server was, a call may not have been stored."""
     last = time.monotonic() + seconds
     for it in clients:
         it.join(max(last - time.monotonic(), 0.1))
         hold(not it.is_alive(), "a client waits for an answer")
+        hold(not (keeps and it.is_unkept), "a call couldn't be stored")
         if it.fault is not None and not (is_killed and isinstance(it.fault, (OSError, http.client.HTTPException))):
             raise it.fault
 
