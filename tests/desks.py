@@ -449,9 +449,9 @@ class Staying(Service):
     # (a fifth of a second if all its workers are taken)
     idle, least = 5, 0.2
 
-    def __init__(self, desk, port=0):
+    def __init__(self, desk, port=0, **how):
         self.err = tempfile.TemporaryFile()
-        self.start(desk, port or free_port(), "stay", err=self.err)
+        self.start(desk, port or free_port(), "stay", err=self.err, **how)
 
     def __exit__(self, *fault):
         super().__exit__(*fault)

@@ -320,6 +320,13 @@ impl Board {
         }
     }
 
+    /// Returns all that the board holds.
+    pub fn content(&self) -> &Content
+        ensures { result.now.state ≡ self.now.state }
+    {
+        self.held.content()
+    }
+
     /// Returns the airline's operations tables.
     pub fn tables(&self) -> &Tables
         ensures { result.now ≡ self.now.state.tables }

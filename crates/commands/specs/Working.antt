@@ -118,8 +118,8 @@ Checks plan desk answer = Gives (λ text. text ≡ check_text desk.before.state 
 -- A script of planned redispatches was run on a desk.
 abbrev pub RunsPlanned : List ℕ → Over DeskAt → Outcome → Type 0
 RunsPlanned script desk =
-    Ends (IsPlanned desk.before.kept.faults desk.after.kept.faults desk.before.state script desk.after.state)
-    (IsPlannedInPart desk.before.kept.faults desk.after.kept.faults desk.before.state script desk.after.state)
+    Ends (IsPlanned desk.before.kept desk.after.kept desk.before.state script desk.after.state)
+    (IsPlannedInPart desk.before.kept desk.after.kept desk.before.state script desk.after.state)
 
 -- A script of shifts was run on a desk.
 abbrev pub RunsShifts : List ℕ → Over DeskAt → Outcome → Type 0

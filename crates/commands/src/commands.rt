@@ -26,6 +26,7 @@ use desk_io::{Listed, OutOfMemory, Shelf, Text};
 use desk_net::{Clock, Door};
 use keeper::Keeper;
 use scripts::{Gate, Steps, leave};
+use service::Program;
 use std::alloc::Global;
 use std::marker::Brand;
 use std::sync::Wait;
@@ -162,7 +163,7 @@ fn work_on<
     B: Bell + Send + Drop,
     C: Clock + Send,
     D: Door + Drop + Send,
-    G: Gate + Sync,
+    G: Gate + Program + Sync,
     L: Ledger,
 >(
     rt: &R,
@@ -247,7 +248,7 @@ fn read_under<
     B: Bell + Send + Drop,
     C: Clock + Send,
     D: Door + Drop + Send,
-    G: Gate + Sync,
+    G: Gate + Program + Sync,
     L: Ledger,
 >(
     rt: &R,
@@ -292,7 +293,7 @@ fn on_desk<
     B: Bell + Send + Drop,
     C: Clock + Send,
     D: Door + Drop + Send,
-    G: Gate + Sync,
+    G: Gate + Program + Sync,
     L: Ledger,
 >(
     rt: &R,
@@ -344,7 +345,7 @@ fn answer_with<
     B: Bell + Send + Drop,
     C: Clock + Send,
     D: Door + Drop + Send,
-    G: Gate + Sync,
+    G: Gate + Program + Sync,
     L: Ledger,
 >(
     rt: &R,
@@ -399,7 +400,7 @@ pub(crate) fn answer_to<
     B: Bell + Send + Drop,
     C: Clock + Send,
     D: Door + Drop + Send,
-    G: Gate + Sync,
+    G: Gate + Program + Sync,
 >(
     rt: &R,
     alloc: Global,

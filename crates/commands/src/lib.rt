@@ -15,5 +15,6 @@ mod working;
 mod works;
 
 pub use scripts::Gate;
+pub use service::Program;
 pub use threads::WORKERS;
 pub use top::{Ending, desk_main};

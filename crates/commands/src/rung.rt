@@ -14,6 +14,7 @@ use desk_io::{Shelf, Text};
 use desk_net::{Clock, Door};
 use keeper::Keeper;
 use scripts::{Board, Gate};
+use service::Program;
 use std::alloc::Global;
 use std::sync::Wait;
 use std::thread::Threads;
@@ -40,7 +41,7 @@ pub(crate) fn answer_rung<
     B: Bell + Send + Drop,
     C: Clock + Send,
     D: Door + Drop + Send,
-    G: Gate + Sync,
+    G: Gate + Program + Sync,
 >(
     rt: &R,
     alloc: Global,

@@ -15,7 +15,7 @@ use desk_io::{Listed, OutOfMemory, Text};
 use desk_net::{Clock, Door};
 use keeper::Keeper;
 use scripts::{Board, Desk, Gate, OpenFault, Raced, Steps, open, race};
-use service::{Left, serve_door, stay_at_door};
+use service::{Left, Program, serve_door, stay_at_door};
 use std::alloc::Global;
 use std::sync::Wait;
 use std::sync::ledger::Ledger;
@@ -50,7 +50,7 @@ pub(crate) fn race_over<
     R: Threads + Wait + Sync,
     K: Keeper + Send,
     B: Bell + Send,
-    G: Gate + Sync,
+    G: Gate + Program + Sync,
     L: Ledger,
 >(
     rt: &R,
@@ -114,7 +114,7 @@ fn serve<
     B: Bell + Send,
     C: Clock + Send,
     D: Door + Drop + Send,
-    G: Gate + Sync,
+    G: Gate + Program + Sync,
 >(
     rt: &R,
     alloc: Global,
@@ -155,7 +155,7 @@ pub(crate) fn serve_over<
     B: Bell + Send,
     C: Clock + Send,
     D: Door + Drop + Send,
-    G: Gate + Sync,
+    G: Gate + Program + Sync,
     L: Ledger,
 >(
     rt: &R,
@@ -216,7 +216,7 @@ fn stay<
     B: Bell + Send,
     C: Clock + Send,
     D: Door + Drop + Send,
-    G: Gate + Sync,
+    G: Gate + Program + Sync,
 >(
     rt: &R,
     alloc: Global,
@@ -256,7 +256,7 @@ pub(crate) fn stay_over<
     B: Bell + Send,
     C: Clock + Send,
     D: Door + Drop + Send,
-    G: Gate + Sync,
+    G: Gate + Program + Sync,
     L: Ledger,
 >(
     rt: &R,

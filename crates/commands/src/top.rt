@@ -19,6 +19,7 @@ use desk_io::{PutFault, Shelf, Sink, Text};
 use desk_net::{Clock, Door};
 use keeper::Keeper;
 use scripts::{Board, Gate};
+use service::Program;
 use std::alloc::Global;
 use std::sync::Wait;
 use std::thread::Threads;
@@ -91,7 +92,7 @@ pub fn desk_main<
     K: Keeper + Send,
     B: Bell + Send + Drop,
     D: Door + Drop + Send,
-    G: Gate + Sync,
+    G: Gate + Program + Sync,
 >(
     rt: &R,
     alloc: Global,

@@ -67,6 +67,12 @@ module _ {X : Type 0} (k : Kind X) where
           ends = ends_on rose link after.more after.last after.left rest how after.piece of_link after.ends;
         }
 
+    -- it ends by the request that ended the last part
+    pub joined_more : (rose link : Type 0) (bytes mid rest : Option (List ℕ)) (how : Served) (one two : List ℕ) (of_link : rose → link) (before : GoesOn k first bytes mid one)
+        (after : IsConnection k then rose mid rest how two) → (joined rose link bytes mid rest how one two of_link before after).more ≡ after.more
+    unfolding joined
+    joined_more rose link bytes mid rest how one two of_link before after = refl
+
     -- requests that were answered, and then others
     pub gone_on : (bytes mid left : Option (List ℕ)) (one two : List ℕ) → GoesOn k first bytes mid one → GoesOn k then mid left two → GoesOn k all bytes left (one ++ two)
     gone_on bytes mid left one two before after = record {

@@ -3,7 +3,7 @@ use Rattle.std.proofs.Common.{◌≡◌, ◌⊎◌, inl, inr, ⊎_elim, ℕ, suc
 use Rattle.std.specs.Prelude.{if◌then◌else◌}
 use mathlib.Core.List.{IsPrefix}
 use Rattle.connections.specs.Doors.{HasLinks, Visit, came_of, met_after}
-use Rattle.connections.specs.Rounds.{AnyList, AreAccepted, AreGivenBack, AreInTurns, BeginsWith, EndsAccepting, HasAllOf, HasLanes, HasNoneFrom, IsBack, IsGivenBack, IsLetOut, back_one, IsInTurns, IsRound, left_by}
+use Rattle.connections.specs.Rounds.{AnyList, AreAccepted, AreGivenBack, AreInTurns, BeginsWith, EndsAccepting, HasAllOf, HasLanes, HasNoneFrom, IsBack, IsGivenBack, IsLetOut, IsInTurns, IsRound, left_by}
 use Rattle.connections.specs.declared.doors.Met.{Met}
 use Rattle.connections.specs.declared.rounds.Visited.{Visited}
 use Rattle.connections.specs.declared.serving.Served.{Served}
@@ -11,7 +11,7 @@ use Rattle.connections.specs.declared.serving.Served.TheVariants as served
 use Rattle.desk_io.proofs.HealthLaws.{rose_before}
 use Rattle.desk_io.specs.Health.{GoesOnWhere, HasFailedWhere, RoseOrFull}
 use Rattle.desk_io.specs.Over.{Over}
-use Rattle.desk_net.specs.Doors.{Accepts, HasNext, LetsIn, LetsOut, Links, Passed, TakesBack, passed}
+use Rattle.desk_net.specs.Doors.{Accepts, HasNext, LetsOut, Links, Passed, TakesBack, passed}
 use Rattle.desk_net.specs.Seen.{DoorSeen}
 use Rattle.turn_lock.proofs.ElementLaws.{prefix_self, prefix_trans}
 use Rattle.turn_lock.specs.Elements.{AddsNoneOf, HasNoneAbove, IsAmong, elements_of}

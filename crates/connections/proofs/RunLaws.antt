@@ -8,7 +8,7 @@ use Rattle.std.proofs.lemmas.List.Elements.{filter-append}
 use mathlib.Core.List.{IsPrefix}
 use Rattle.connections.proofs.RoundLaws.{Follows, are_later, are_other}
 use Rattle.connections.specs.Doors.{AreAtPort, AreFewer, ArePassed, AreTaken, EndsServing, HadMemory, HasLinks, IsWell, Visit, back_of, came_of, counts_as, end_at_door, end_of, ended_by_clock, is_clock_fault, met_after}
-use Rattle.connections.specs.Rounds.{AnyList, AreAccepted, AreGivenBack, AreInTurns, AreServed, BeginsWith, ComesAfter, EndsAccepting, EndsRound, GoesBefore, HasAllOf, HasLanes, HasMet, HasServed, IsBack, IsLetOut, back_one, IsInTurns, IsLast, IsRound, left_by}
+use Rattle.connections.specs.Rounds.{AnyList, AreAccepted, AreGivenBack, AreInTurns, AreServed, BeginsWith, ComesAfter, EndsAccepting, EndsRound, GoesBefore, HasAllOf, HasLanes, HasMet, HasServed, IsBack, back_one, IsInTurns, IsLast, IsRound, left_by}
 use Rattle.connections.specs.declared.doors.Met.{Met}
 use Rattle.connections.specs.declared.doors.ServeEnd.{ServeEnd}
 use Rattle.connections.specs.declared.doors.ServeEnd.TheVariants as ends

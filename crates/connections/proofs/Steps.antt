@@ -8,6 +8,7 @@ use Rattle.desk_io.specs.declared.faults.PutFault.{PutFault}
 use Rattle.desk_io.specs.declared.faults.PutFault.TheVariants.{Failed}
 use Rattle.desk_net.specs.Streams.{OnlyRead, Stream, Writes, unread}
 use Rattle.connections.specs.Connections.{Answered, Answers, AreRequests, AsksCall, ClockFailed, EndsConnection, FoundNoMemory, IsConnection, IsFrontOf, IsMidRequest, IsStep, IsWritten, Kind, Last, OnBoth, OnTold, RanOut, out_of_memory_answer, clock_fault_answer}
+use Rattle.connections.specs.Crossed.{IfNoMore}
 use Rattle.connections.specs.Writing.{Ends, EndsAs, EndsWithout, WritesAll, WritesAnswer, Wrote}
 use Rattle.connections.specs.declared.answers.Unanswered.{Unanswered}
 use Rattle.connections.specs.declared.answers.Unanswered.TheVariants as why
@@ -72,6 +73,9 @@ pub stops_reading : (before now rest : Option (List ℕ)) (kept left : List ℕ)
 stops_reading before now rest kept left f same is ends =
     let stop : EndsBy before now kept left fault.ReadFault = subst (EndsBy before now kept left) is ends in
     subst (IsMidRequest (unused kept before)) (sym same) (stops before now kept left stop.0.0 stop.0.1 stop.0.2 stop.1)
+
+pub more_as : {X : Type 0} (how wanted : Served) (more : List X) (P : Type 0) → how ≡ wanted → IfNoMore wanted more P → IfNoMore how more P
+more_as how wanted more P is out = subst (λ (e : Served). IfNoMore e more P) (sym is) out
 
 module _ {X : Type 0} (k : Kind X) (goes : List X → Last → Type 0) where
   -- ---- a connection that ends with nothing more that was answered whole
@@ -214,6 +218,26 @@ module _ {X : Type 0} (k : Kind X) (goes : List X → Last → Type 0) where
   serves_step link wire (Err why.OutOfMemory) bytes others rest None piece answers stepped never = absurd never
   serves_step link wire (Err why.OutOfMemory) bytes others rest (Some how) piece answers stepped ends =
       serves_last link wire bytes others rest how piece (last_is link how piece ends) answers stepped (written_last link how piece ends)
+
+  -- an answered request that ended the connection was its last one
+  pub answered_out : (link : Type 0) (wire : Wire) (answered : Result (List ℕ) Unanswered) (bytes others rest : Option (List ℕ)) (how : Served) (piece : List ℕ) (gives : AnswersUnused bytes others (Ok wire))
+      (is : Answers k goes wire answered) (writes : WritesAnswer link answered wire.last (Some how) piece) (P : Type 0)
+      → IfNoMore how (serves_step link wire answered bytes others rest (Some how) piece gives is writes).more P
+  unfolding serves_step serves_answered one_more
+  answered_out link wire (Ok text) bytes others rest served.Ended piece gives is writes P = tt
+  answered_out link wire (Ok text) bytes others rest served.Cut piece gives is writes P = absurd writes
+  answered_out link wire (Ok text) bytes others rest served.BadHead piece gives is writes P = tt
+  answered_out link wire (Ok text) bytes others rest served.TooLarge piece gives is writes P = tt
+  answered_out link wire (Ok text) bytes others rest served.NoLength piece gives is writes P = tt
+  answered_out link wire (Ok text) bytes others rest served.WrongMethod piece gives is writes P = tt
+  answered_out link wire (Ok text) bytes others rest served.ReadFault piece gives is writes P = tt
+  answered_out link wire (Ok text) bytes others rest served.WriteFault piece gives is writes P = tt
+  answered_out link wire (Ok text) bytes others rest served.ClockFault piece gives is writes P = tt
+  answered_out link wire (Ok text) bytes others rest served.OutOfMemory piece gives is writes P = tt
+  answered_out link wire (Err why.ClockFault) bytes others rest how piece gives is (inl (so, written)) P = more_as how served.ClockFault _ P so tt
+  answered_out link wire (Err why.ClockFault) bytes others rest how piece gives is (inr (so, none)) P = more_as how served.OutOfMemory _ P so tt
+  answered_out link wire (Err why.OutOfMemory) bytes others rest how piece gives is (inl (so, written)) P = more_as how served.OutOfMemory _ P so tt
+  answered_out link wire (Err why.OutOfMemory) bytes others rest how piece gives is (inr (so, none)) P = more_as how served.OutOfMemory _ P so tt
 
   writes_more : (rose link : Type 0) (bytes : List ℕ) (last : Bool) (result : Option Served) (piece : List ℕ) → (rose → link) → WritesAll rose bytes last result piece → WritesAll link bytes last result piece
   writes_more rose link bytes last None piece more writes = writes

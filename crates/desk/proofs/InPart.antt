@@ -16,25 +16,34 @@ on_err (Ok a) holds = tt
 on_err (Err e) holds = holds
 
 -- nothing was done of what is left
-none_begun : (lane : ℕ) (left : List Item) (s t : State) → t ≡ s → MayHaveBegunNext lane left s t
+pub none_begun : (lane : ℕ) (left : List Item) (s t : State) → t ≡ s → MayHaveBegunNext lane left s t
 none_begun lane [] s t is = is
 none_begun lane (item.Bad fault ∷ rest) s t is = is
 none_begun lane (item.Call at call ∷ rest) s t is = inl is
 
-front_ends : (lane : ℕ) (before after : KeptAt) (s : State) (items : List Item) (t : State) (left : List Item) (made : List Outcome) → (so_far : AreGivenSoFar lane before after s items t left made)
+pub front_ends : (lane : ℕ) (before after : KeptAt) (s : State) (items : List Item) (t : State) (left : List Item) (made : List Outcome) → (so_far : AreGivenSoFar lane before after s items t left made)
     → t ≡ after_with lane s so_far.front so_far.choices
 front_ends lane before after s items t left made so_far =
     so_far.state [] []
     ∙ ap (λ is. after_with lane s is (so_far.choices ++ [])) (append-nil so_far.front)
     ∙ ap (λ cs. after_with lane s so_far.front cs) (append-nil so_far.choices)
 
-front_asks : (lane : ℕ) (before after : KeptAt) (s : State) (items : List Item) (t : State) (left : List Item) (made : List Outcome) → (so_far : AreGivenSoFar lane before after s items t left made)
+pub front_asks : (lane : ℕ) (before after : KeptAt) (s : State) (items : List Item) (t : State) (left : List Item) (made : List Outcome) → (so_far : AreGivenSoFar lane before after s items t left made)
     → after.stored ≡ before.stored ++ asked_all lane s so_far.front so_far.choices
 front_asks lane before after s items t left made so_far =
     sym (append-nil after.stored)
     ∙ so_far.stored [] []
     ∙ ap (λ is. before.stored ++ asked_all lane s is (so_far.choices ++ [])) (append-nil so_far.front)
     ∙ ap (λ cs. before.stored ++ asked_all lane s so_far.front cs) (append-nil so_far.choices)
+
+-- what the items of the prefix came to
+pub front_outcomes : (lane : ℕ) (before after : KeptAt) (s : State) (items : List Item) (t : State) (left : List Item) (made : List Outcome) → (so_far : AreGivenSoFar lane before after s items t left made)
+    → made ≡ outcomes_with lane s so_far.front so_far.choices
+front_outcomes lane before after s items t left made so_far =
+    sym (append-nil made)
+    ∙ so_far.outcomes [] []
+    ∙ ap (λ is. outcomes_with lane s is (so_far.choices ++ [])) (append-nil so_far.front)
+    ∙ ap (λ cs. outcomes_with lane s so_far.front cs) (append-nil so_far.choices)
 
 ends_in_part : (lane : ℕ) (before middle after : KeptAt) (s : State) (items : List Item) (t u : State) (left : List Item) (made : List Outcome) → AreGivenSoFar lane before middle s items t left made
     → KeptLater middle after → MayHaveBegunNext lane left t u → AreGivenInPart lane before after s items u

@@ -10,11 +10,12 @@ use Rattle.made_items.specs.Calls.{Came, calls, flights}
 use Rattle.made_items.specs.Makers.{Making, GoesOn, calls_left, next_call, noted}
 use Rattle.made_items.proofs.MakerLaws.{goes_on}
 use Rattle.made_items.specs.Numbers.{next_number}
-use Rattle.desk.specs.InPart.{AreGivenInPart, MayHaveBegun}
-use Rattle.desk.specs.Keeping.{AreGiven, AreGivenSoFar, Choice, KeptAt, KeptLater, asked_item, item_with}
+use Rattle.desk.specs.InPart.{AreGivenInPart, MayHaveBegun, MayHaveBegunNext}
+use Rattle.desk.specs.Keeping.{AreGiven, AreGivenSoFar, Choice, KeptAt, KeptLater, asked_item, item_with, outcomes_with}
 use Rattle.desk.specs.Made.{done_of, came_of, made_item, made_items, made_text, IsMade, IsMadeInPart}
 use Rattle.desk.proofs.Choices.{KeptBy, all_given, given_next}
-use Rattle.desk.proofs.InPart.{after_next, at_next, given_whole, none_so_far, stopped}
+use Rattle.desk.proofs.AskedLaws.{later_refl}
+use Rattle.desk.proofs.InPart.{front_asks, front_ends, front_outcomes, none_begun, none_so_far}
 
 -- ---- how many they are
 
@@ -89,11 +90,31 @@ all_made before after s number count t left made so_far none =
 
 -- ---- where memory runs out
 
--- the items that are left begin with the next one
-next_left : (number count : ℕ) (items : List Item) (left : Making) (made : List Outcome) (call : Call) → ((came : Came) → made_items number count (came_of made ++ came) ≡ items ++ map made_item (calls_left left came))
-    → next_call left ≡ Some call → made_items number count (came_of made ++ None ∷ []) ≡ items ++ made_item call ∷ map made_item (calls_left (noted left None) [])
-next_left number count items left made call whole is =
-    whole (None ∷ []) ∙ ap (λ cs. items ++ map made_item cs) ((goes_on left (noted left None) None refl).calls call is [])
+-- the items that are left begin with the next one, whatever that comes to
+next_left : (number count : ℕ) (items : List Item) (left : Making) (made : List Outcome) (call : Call) (what : Option DoneType)
+    → ((came : Came) → made_items number count (came_of made ++ came) ≡ items ++ map made_item (calls_left left came)) → next_call left ≡ Some call
+    → made_items number count (came_of made ++ what ∷ []) ≡ items ++ made_item call ∷ map made_item (calls_left (noted left what) [])
+next_left number count items left made call what whole is =
+    whole (what ∷ []) ∙ ap (λ cs. items ++ map made_item cs) ((goes_on left (noted left what) what refl).calls call is [])
+
+-- the items so far came to the first of these results
+made_in_part : (before middle after : KeptAt) (s : State) (number count : ℕ) (t u : State) (items left : List Item) (made : List Outcome) (came later : Came) → AreGivenSoFar 1 before middle s items t left made
+    → KeptLater middle after → MayHaveBegunNext 1 left t u → made_items number count came ≡ items → came ≡ came_of made ++ later → IsMadeInPart before after s number count u
+made_in_part before middle after s number count t u items left made came later so_far over begun same is = record {
+  came = came;
+  given = record {
+    front = so_far.front;
+    left = left;
+    choices = so_far.choices;
+    whole = same ∙ so_far.whole;
+    kept = middle;
+    counted = so_far.counted;
+    stored = front_asks 1 before middle s items t left made so_far;
+    later = over;
+    state = subst (λ (v : State). MayHaveBegunNext 1 left v u) (front_ends 1 before middle s items t left made so_far) begun;
+  };
+  begins = (later, is ∙ ap (λ os. came_of os ++ later) (front_outcomes 1 before middle s items t left made so_far));
+}
 
 -- before the next item, or after the tick that comes first
 pub made_at : (before middle after : KeptAt) (s : State) (number count : ℕ) (t u : State) (left : Making) (made : List Outcome) (call : Call) → MadeSoFar before middle s number count t left made
@@ -101,37 +122,45 @@ pub made_at : (before middle after : KeptAt) (s : State) (number count : ℕ) (t
 made_at before middle after s number count t u left made call so_far is over begun =
     let i = made_item call in
     let rest = map made_item (calls_left (noted left None) []) in
-    record {
-      came = came_of made ++ None ∷ [];
-      given = subst (λ is. AreGivenInPart 1 before after s is u) (sym (next_left number count so_far.items left made call so_far.whole is))
-          (at_next 1 before middle after s (so_far.items ++ i ∷ rest) t u (i ∷ rest) rest i made refl (widen 1 before middle s so_far.items t made (i ∷ rest) so_far.given) over begun);
-    }
+    made_in_part before middle after s number count t u (so_far.items ++ i ∷ rest) (i ∷ rest) made (came_of made ++ None ∷ []) (None ∷ [])
+    (widen 1 before middle s so_far.items t made (i ∷ rest) so_far.given) over begun (next_left number count so_far.items left made call None so_far.whole is) refl
 
 -- the next item was answered, and there was no memory to keep its outcome
 pub made_after : (before middle after : KeptAt) (s : State) (number count : ℕ) (t u : State) (left : Making) (made : List Outcome) (call : Call) (c : Choice) → MadeSoFar before middle s number count t left made
     → next_call left ≡ Some call → KeptBy middle after c (asked_item c 1 t (made_item call)) → u ≡ (item_with c 1 t (made_item call)).state → IsMadeInPart before after s number count u
 made_after before middle after s number count t u left made call c so_far is kept state =
     let i = made_item call in
-    let rest = map made_item (calls_left (noted left None) []) in
-    record {
-      came = came_of made ++ None ∷ [];
-      given = subst (λ is. AreGivenInPart 1 before after s is u) (sym (next_left number count so_far.items left made call so_far.whole is))
-          (after_next 1 before middle after s (so_far.items ++ i ∷ rest) t u (i ∷ rest) rest i made c refl (widen 1 before middle s so_far.items t made (i ∷ rest) so_far.given) kept state);
-    }
+    let o : Outcome = (item_with c 1 t i).outcome in
+    let what = done_of o.said in
+    let rest = map made_item (calls_left (noted left what) []) in
+    let next = given_next 1 before middle after s (so_far.items ++ i ∷ rest) t u (i ∷ rest) rest i made (made ++ o ∷ []) c o refl (widen 1 before middle s so_far.items t made (i ∷ rest) so_far.given) kept refl state refl in
+    made_in_part before after after s number count u u (so_far.items ++ i ∷ rest) rest (made ++ o ∷ []) (came_of made ++ what ∷ []) [] next (later_refl after) (none_begun 1 rest u u refl)
+    (next_left number count so_far.items left made call what so_far.whole is) (sym (append-nil (came_of (made ++ o ∷ [])) ∙ map-append (λ (p : Outcome). done_of p.said) made (o ∷ [])))
 
 -- nothing more was done
 pub made_so_far : (before after : KeptAt) (s : State) (number count : ℕ) (t : State) (left : Making) (made : List Outcome) → MadeSoFar before after s number count t left made → IsMadeInPart before after s number count t
 made_so_far before after s number count t left made so_far =
     let later = map made_item (calls_left left []) in
-    record {
-      came = came_of made ++ [];
-      given = subst (λ is. AreGivenInPart 1 before after s is t) (sym (so_far.whole []))
-          (stopped 1 before after s (so_far.items ++ later) t later made (widen 1 before after s so_far.items t made later so_far.given));
-    }
+    made_in_part before after after s number count t t (so_far.items ++ later) later made (came_of made ++ []) [] (widen 1 before after s so_far.items t made later so_far.given) (later_refl after)
+    (none_begun 1 later t t refl) (so_far.whole []) refl
 
 -- all were answered
 pub made_whole : (before after : KeptAt) (s : State) (number count : ℕ) (t : State) (made : List Outcome) → AreGiven 1 before after s (made_items number count (came_of made)) t made → IsMadeInPart before after s number count t
-made_whole before after s number count t made given = record { came = came_of made; given = given_whole 1 before after s (made_items number count (came_of made)) (made_items number count (came_of made)) t made refl given }
+made_whole before after s number count t made given = record {
+  came = came_of made;
+  given = record {
+    front = made_items number count (came_of made);
+    left = [];
+    choices = given.choices;
+    whole = sym (append-nil (made_items number count (came_of made)));
+    kept = after;
+    counted = given.counted;
+    stored = given.stored;
+    later = later_refl after;
+    state = given.state;
+  };
+  begins = ([], ap (λ os. came_of os) given.outcomes ∙ sym (append-nil (came_of (outcomes_with 1 s (made_items number count (came_of made)) given.choices))));
+}
 
 pub is_made : (before after : KeptAt) (s : State) (number count : ℕ) (t : State) (made : List Outcome) (text : List ℕ) → AreGiven 1 before after s (made_items number count (came_of made)) t made → text ≡ made_text number count made t
     → IsMade before after s number count t text

@@ -12,7 +12,7 @@ use Rattle.desk_state.specs.declared.lanes.Said.{Said}
 use Rattle.desk_state.specs.declared.lanes.Said.TheVariants as said
 use Rattle.made_items.specs.Calls.{Came, calls, made_at}
 use Rattle.desk.specs.InPart.{AreGivenInPart}
-use Rattle.desk.specs.Keeping.{AreGiven, Choice, Counted, KeptAt, asked_item, item_with}
+use Rattle.desk.specs.Keeping.{AreGiven, Choice, Counted, KeptAt, asked_item, item_with, outcomes_with}
 
 -- ---- the outcomes of calls
 
@@ -90,7 +90,8 @@ pub record IsMade (before after : KeptAt) (s : State) (number count : ℕ) (t : 
   pub given : AreGiven 1 before after s (made_items number count (came_of outcomes)) t outcomes
   pub says : text ≡ made_text number count outcomes t
 
--- The same until memory ran out: a prefix of the items was answered.
+-- The same until memory ran out: a prefix of the items was answered. The seed makes these items from their outcomes.
 pub record IsMadeInPart (before after : KeptAt) (s : State) (number count : ℕ) (t : State) : Type 0 where
   pub came : Came
   pub given : AreGivenInPart 1 before after s (made_items number count came) t
+  pub begins : (later : Came) × (came ≡ came_of (outcomes_with 1 s given.front given.choices) ++ later)

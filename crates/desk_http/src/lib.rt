@@ -17,7 +17,7 @@ pub use buffer::Buffer;
 pub use fronts::{FIELD_ROOM, Front, HEAD_LIMIT, front_of};
 pub use heads::{BODY_LIMIT, asked};
 pub use requests::next_request;
-pub use responses::response;
+pub use responses::{response, typed_response};
 pub use router::Patterns;
 pub use routes::{RouteFault, Routed, route};
 pub use wire::{Asked, Wire, WireFault};

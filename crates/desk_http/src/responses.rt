@@ -38,35 +38,43 @@ fn status_line(alloc: Global, status: u16) -> Result<Vec<u8>, OutOfMemory>
     Ok(line)
 }
 
-fn field_lines(alloc: Global, count: usize) -> Result<Vec<u8>, OutOfMemory>
-    ensures { IfOk result (λ lines. lines.items ≡ spec.field_lines count) }
+fn field_lines(alloc: Global, media: &[u8], count: usize) -> Result<Vec<u8>, OutOfMemory>
+    ensures { IfOk result (λ lines. lines.items ≡ spec.field_lines media.now count) }
 {
     let count = count.to_string(alloc)?;
     let mut lines = Vec::new(alloc);
+    push_all(&mut lines, &[b"Content-Type: ", media, LINE_END])?;
     push_all(
         &mut lines,
-        &[
-            b"Content-Type: application/json",
-            LINE_END,
-            b"Content-Length: ",
-            count.as_bytes(),
-            LINE_END,
-        ],
+        &[b"Content-Length: ", count.as_bytes(), LINE_END],
     )?;
     Ok(lines)
 }
 
 /// Returns the bytes of a response (RFC 9112, section 4): status line, Content-Type, Content-Length, an empty line,
-/// and the JSON body. The status must have three digits. Its reason phrase is that of the crate http, which predates
+/// and the body. The status must have three digits. Its reason phrase is that of the crate http, which predates
 /// RFC 9110 for 413 and 422.
-#[tactic(auto, unfolding(crate::specs::Responses::response))]
+#[tactic(auto, unfolding(crate::specs::Responses::typed_response))]
+pub fn typed_response(
+    alloc: Global,
+    status: u16,
+    media: &[u8],
+    body: &[u8],
+) -> Result<Text, OutOfMemory>
+    requires { IsStatusCode status }
+    ensures { IfOk result (λ text. text ≡ spec.typed_response status media.now body.now) }
+{
+    let line = status_line(alloc, status)?;
+    let fields = field_lines(alloc, media, body.len())?;
+    let mut bytes = Vec::new(alloc);
+    push_all(&mut bytes, &[&line, &fields, LINE_END, body])?;
+    Ok(Text::from_vec(bytes))
+}
+
+/// Returns the bytes of a response with a JSON body.
 pub fn response(alloc: Global, status: u16, body: &[u8]) -> Result<Text, OutOfMemory>
     requires { IsStatusCode status }
     ensures { IfOk result (λ text. text ≡ spec.response status body.now) }
 {
-    let line = status_line(alloc, status)?;
-    let fields = field_lines(alloc, body.len())?;
-    let mut bytes = Vec::new(alloc);
-    push_all(&mut bytes, &[&line, &fields, LINE_END, body])?;
-    Ok(Text::from_vec(bytes))
+    typed_response(alloc, status, b"application/json", body)
 }

@@ -23,7 +23,7 @@ pub use lines::{read_call, read_line};
 pub use planned::{PlannedLine, read_planned};
 pub use plans::{PlanText, read_plan};
 pub use read_replies::read_reply;
-pub use refusals::why_name;
+pub use refusals::{refusal_number, why_name};
 pub use replies::{bad_text, reply_text};
 pub use shifts::{Deal, ShiftLine, read_shift};
 pub use written_calls::call_text;

@@ -51,7 +51,8 @@ fn plan_why_name(why: PlanWhy) -> &'static str
     }
 }
 
-fn refusal_number(refusal: &Refusal) -> u64
+/// Returns the number of a refusal, as its reply shows it.
+pub fn refusal_number(refusal: &Refusal) -> u64
     ensures { result ≡ spec.refusal_number refusal.now }
 {
     match refusal {

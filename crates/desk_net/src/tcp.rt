@@ -1,4 +1,6 @@
 ghost use Rattle.std.specs.Prelude.{◌≡◌, ◌<◌, ◌≤◌, [], false, true, length, take, None, Some, IsSome, IsSomeAnd, IfOk, IsOk, IsErr, OnOk, OnErr};
+ghost use Rattle.std.proofs.Props.{props};
+ghost use Rattle.std.specs.List.{AllByRecursion};
 ghost use Rattle.std.specs.Io.KnownBytes.{Appends, ReadConsumes};
 ghost use Rattle.desk_io.specs.Told.{AppendsFront};
 ghost use Rattle.desk_io.specs.Health.{GoesOn, GoesOnWhere, HasCause, HasFailed, HasFailedWhere, unsound};
@@ -230,6 +232,8 @@ pub struct TcpDoor<R: Net + time::Clock + Copy> {
     came: Record<TcpLink<R::Stream, R>>,
     went: Record<TcpLink<R::Stream, R>>,
     faults: u64,
+    // Nothing had crossed a link when it was let in.
+    ghost fresh: { AllByRecursion (λ link. link.crossed.list ≡ []) came.list } by { Prim.hlevel props },
 }
 
 impl<R: Net + time::Clock + Copy> TcpDoor<R> {

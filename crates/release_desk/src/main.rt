@@ -3,6 +3,7 @@
 
 mod busy_gate;
 mod choice;
+mod name;
 mod reasons;
 mod shipped;
 mod stderr_bell;
@@ -10,6 +11,7 @@ mod stderr_progress;
 
 use crate::busy_gate::BusyGate;
 use crate::choice::{Choice, chosen, leave};
+use crate::name::{name_of, shown};
 use crate::reasons::tell_why;
 use crate::shipped::{DeskBell, run_shipped};
 use crate::stderr_bell::StderrBell;
@@ -69,7 +71,8 @@ fn main(rt: HostRuntime) -> ExitCode {
     let taken = Taken::new(WORKERS as u64);
     let door = TcpDoor::new(TimedNet::new(rt, &taken, !stays));
     let progress = StderrProgress::new(rt.stderr().is_terminal() && !stays, rt);
-    let gate = BusyGate::new(&taken, progress);
+    let name = name_of(&rt);
+    let gate = BusyGate::new(&taken, progress, shown(name.as_str()));
     let Ending { status, keeper, .. } = run_shipped(
         &rt,
         rt.alloc(),

@@ -1,4 +1,4 @@
-use commands::Gate;
+use commands::{Gate, Program};
 use desk_io::OutOfMemory;
 use std::alloc::Global;
 use std::sync::atomic::{AtomicBool, AtomicU64, Ordering};
@@ -55,6 +55,16 @@ impl GateThatCounts {
             return Ok(format!(in alloc; "[null,{passed},{order}]")?);
         }
         Ok(String::from_str(alloc, "null")?)
+    }
+}
+
+impl Program for GateThatCounts {
+    fn name(&self) -> &[u8] {
+        b"a case"
+    }
+
+    fn busy(&self) -> u64 {
+        0
     }
 }
 

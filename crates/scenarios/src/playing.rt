@@ -1,7 +1,7 @@
 use crate::counting::GateThatCounts;
 use crate::outside::{CaseClock, CaseDoor, CaseKeeper, CaseShelf};
 use alerts::{Bell, Dropped, MemoryBell};
-use commands::{Ending, Gate, desk_main};
+use commands::{Ending, Gate, Program, desk_main};
 use desk_io::{MemorySink, Shelf, Sink};
 use desk_net::{Clock, Door};
 use keeper::Keeper;
@@ -70,7 +70,7 @@ fn came_of<
     K: Keeper + Send,
     B: Bell + Send + Drop,
     D: Door + Drop + Send,
-    G: Gate + Sync,
+    G: Gate + Program + Sync,
 >(
     rt: &R,
     alloc: Global,

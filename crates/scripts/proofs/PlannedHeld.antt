@@ -8,6 +8,7 @@ use Rattle.asks.specs.declared.call.Call.{Call}
 use Rattle.asks.specs.declared.reply.Refusal.{Refusal}
 use Rattle.asks.specs.declared.reply.Refusal.TheVariants as refusal_of
 use Rattle.asks.specs.declared.reply.Reply.TheVariants.{Refused}
+use Rattle.desk.specs.Keeping.{KeptAt}
 use Rattle.desk_json.specs.declared.planned.PlannedLine.TheVariants.{Asked, File, Check, Turn}
 use Rattle.desk_state.proofs.Deciding.{found_fits}
 use Rattle.desk_state.specs.Decide.{bad_plan}
@@ -203,7 +204,7 @@ later_formed (Ok (Check at actor key release)) says planned formed all = all
 later_formed (Ok (Turn at actor key number release)) says planned formed all = all
 
 -- the plans that are filed after a line is answered
-pub stay_formed : (before after : ℕ) (s : State) (planned : List Filed) (i : PlannedItem) (t : State) (filed : List Filed) (o : LineOutcome) → IsLineAnswered before after s planned i t filed o → IsLineFormed i
+pub stay_formed : (before after : KeptAt) (s : State) (planned : List Filed) (i : PlannedItem) (t : State) (filed : List Filed) (o : LineOutcome) → IsLineAnswered before after s planned i t filed o → IsLineFormed i
     → AllByRecursion HasFormedPlan planned → AllByRecursion HasFormedPlan filed
 stay_formed before after s planned i t filed o answered formed all = subst (AllByRecursion HasFormedPlan) (sym answered.filed_is) (later_formed i o.said planned formed all)
 

@@ -9,7 +9,7 @@ use Rattle.asks.specs.declared.reply.Reply.{Reply}
 use Rattle.desk.proofs.Choices.{rise_within}
 use Rattle.desk.proofs.Growing.{Grows, IsWithin, entry_stands, grown_on, grows_long, grows_on, legal_after, prefix_is}
 use Rattle.desk.proofs.Positions.{same_tick, tick_call, wider_answer, wider_refusal}
-use Rattle.desk.specs.Keeping.{Choice, Counted, Rise, numbers_of}
+use Rattle.desk.specs.Keeping.{Choice, Counted, KeptAt, Rise, numbers_of}
 use Rattle.desk.specs.Positions.{IsEntryOf, IsRefusedBy, after_entries, prefix}
 use Rattle.desk.specs.Run.{lines_of}
 use Rattle.desk_json.specs.declared.planned.PlannedLine.{PlannedLine}
@@ -679,11 +679,11 @@ lines_in low high opening s planned (i ∷ rest) choices counted board formed al
     (lines_in f.middle high opening g.state (filed_by i g.outcome.said planned) rest (later_choices choices) f.last (d.keeps opening board formed.0 all) formed.1 (later_formed i g.outcome.said planned formed.0 all))
 
 -- the run of a script is in one history
-pub run_in_history : (low high : ℕ) (opening s : State) (script : List ℕ) (t : State) (text : List ℕ) → IsPlannedRun low high s script t text → IsBoard opening s
-    → AllByRecursion IsLineFormed (planned_items (lines_of script)) → IsPlannedHistory low high s script t text
-run_in_history low high opening s script t text run board formed =
+pub run_in_history : (before after : KeptAt) (opening s : State) (script : List ℕ) (t : State) (text : List ℕ) → IsPlannedRun before after s script t text → IsBoard opening s
+    → AllByRecursion IsLineFormed (planned_items (lines_of script)) → IsPlannedHistory before.faults after.faults s script t text
+run_in_history before after opening s script t text run board formed =
     let items : List PlannedItem = planned_items (lines_of script) in
-    let all = lines_in low high opening s [] items run.choices run.counted board formed tt in
+    let all = lines_in before.faults after.faults opening s [] items run.choices run.counted board formed tt in
     record {
       outcomes = lines_with s [] items run.choices;
       says = run.says;
@@ -694,16 +694,17 @@ run_in_history low high opening s script t text run board formed =
     }
 
 -- a run as a call gives it, of the lines that code found in a script
-given_planned : {V E : Type 0} (r : Result V E) (text : V → List ℕ) (low high : ℕ) (opening s : State) (script : List ℕ) (t : State) → IfOk r (λ v. IsPlannedRun low high s script t (text v))
-    → OnOk r (AllByRecursion IsLineFormed (planned_items (lines_of script))) → IsBoard opening s → IfOk r (λ v. IsPlanned low high s script t (text v))
-given_planned (Ok v) text low high opening s script t run formed board = record { run = run; history = run_in_history low high opening s script t (text v) run board formed }
-given_planned (Err e) text low high opening s script t run formed board = tt
+given_planned : {V E : Type 0} (r : Result V E) (text : V → List ℕ) (before after : KeptAt) (opening s : State) (script : List ℕ) (t : State)
+    → IfOk r (λ v. IsPlannedRun before after s script t (text v)) → OnOk r (AllByRecursion IsLineFormed (planned_items (lines_of script))) → IsBoard opening s
+    → IfOk r (λ v. IsPlanned before after s script t (text v))
+given_planned (Ok v) text before after opening s script t run formed board = record { run = run; history = run_in_history before after opening s script t (text v) run board formed }
+given_planned (Err e) text before after opening s script t run formed board = tt
 
-pub found_planned : {V E : Type 0} (r : Result V E) (text : V → List ℕ) (low high : ℕ) (opening s : State) (script : List ℕ) (lines : List (List ℕ)) (t : State) → lines ≡ lines_of script
-    → IfOk r (λ v. IsPlannedRunOf low high s (planned_items lines) t (text v)) → OnOk r (AllByRecursion IsLineFormed (planned_items lines)) → IsBoard opening s
-    → IfOk r (λ v. IsPlanned low high s script t (text v))
-found_planned r text low high opening s script lines t same run formed board =
-    given_planned r text low high opening s script t (subst (λ (ls : List (List ℕ)). IfOk r (λ v. IsPlannedRunOf low high s (planned_items ls) t (text v))) same run)
+pub found_planned : {V E : Type 0} (r : Result V E) (text : V → List ℕ) (before after : KeptAt) (opening s : State) (script : List ℕ) (lines : List (List ℕ)) (t : State) → lines ≡ lines_of script
+    → IfOk r (λ v. IsPlannedRunOf before after s (planned_items lines) t (text v)) → OnOk r (AllByRecursion IsLineFormed (planned_items lines)) → IsBoard opening s
+    → IfOk r (λ v. IsPlanned before after s script t (text v))
+found_planned r text before after opening s script lines t same run formed board =
+    given_planned r text before after opening s script t (subst (λ (ls : List (List ℕ)). IfOk r (λ v. IsPlannedRunOf before after s (planned_items ls) t (text v))) same run)
     (subst (λ (ls : List (List ℕ)). OnOk r (AllByRecursion IsLineFormed (planned_items ls))) same formed) board
 
 -- ---- the same where the keeper's faults are counted from before
@@ -730,7 +731,8 @@ module _ (less low high : ℕ) (s : State) (planned : List Filed) (items : List 
     proposed = λ position id plan from upto pending. proposed_lower position id plan (m.proposed position id plan from upto pending);
   }
 
-pub planned_lower : (less before after : ℕ) (s : State) (script : List ℕ) (t : State) (text : List ℕ) → less ≤ before → IsPlanned before after s script t text → IsPlanned less after s script t text
+pub planned_lower : (less : ℕ) (before after : KeptAt) (s : State) (script : List ℕ) (t : State) (text : List ℕ) → less ≤ before.faults → IsPlanned before after s script t text
+    → IsPlanned (record before { faults = less }) after s script t text
 planned_lower less before after s script t text under is = record {
   run = run_lower less before after s (planned_items (lines_of script)) t text under is.run;
   history = record {
@@ -739,6 +741,6 @@ planned_lower less before after s script t text under is = record {
     entries = is.history.entries;
     grown = is.history.grown;
     legal = is.history.legal;
-    merged = merged_lower less before after s [] (planned_items (lines_of script)) is.history.outcomes is.history.entries under is.history.merged;
+    merged = merged_lower less before.faults after.faults s [] (planned_items (lines_of script)) is.history.outcomes is.history.entries under is.history.merged;
   };
 }

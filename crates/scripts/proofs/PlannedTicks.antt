@@ -1,19 +1,21 @@
 -- The tick before a line, and the answer after it.
-use Rattle.std.proofs.Common.{◌≡◌, ℕ, ◌<◌, Bool, true, false, Option, None, Some, IfSome, Ok, List, ◌⊎◌, inl, inr, refl, Err, arith, ap, sym, subst}
+use Rattle.std.proofs.Common.{◌≡◌, ℕ, ◌<◌, Bool, true, false, Option, None, Some, IfSome, Ok, List, ◌⊎◌, inl, inr, refl, Err, append-nil, arith, ap, sym, subst}
 use Rattle.std.specs.Prelude.{nat_lt}
 use Rattle.asks.specs.declared.bad_call.BadCall.{BadCall}
 use Rattle.asks.specs.declared.reply.Reply.{Reply}
+use Rattle.desk.proofs.AskedLaws.{asks_on}
 use Rattle.desk.proofs.Growing.{Stays, Ticks, is_later, tick_steps}
-use Rattle.desk.specs.Keeping.{adds, kept_or, no_choice, ticked_with, unkept_if}
+use Rattle.desk.specs.Keeping.{Asks, KeptAt, adds, kept_or, no_choice, ticked_with, unkept_if}
 use Rattle.desk.specs.Settled.{MayHaveTicked}
 use Rattle.desk_json.specs.declared.planned.PlannedLine.{PlannedLine}
 use Rattle.desk_json.specs.declared.planned.PlannedLine.TheVariants.{Asked, File, Check, Turn}
 use Rattle.desk_state.specs.State.{State}
 use Rattle.desk_state.specs.Step.{Stepped, full_reply, tick_to}
+use Rattle.keeper.specs.Seen.{KeeperSeen}
 use Rattle.redispatch.specs.Filed.{final_plan}
 use Rattle.redispatch.specs.declared.planned.Filed.{Filed}
 use Rattle.scripts.specs.PlannedAnswers.{IsLineAnswered, IsLineGiven, IsNotDone, IsTicked}
-use Rattle.scripts.specs.PlannedRuns.{PlannedItem, after_tick, bad_line, filed_by_line, filed_if, is_done_reply, line_at, line_with, once_ticked, ticked_before, ticked_if}
+use Rattle.scripts.specs.PlannedRuns.{PlannedItem, after_tick, asked_after, asked_before, asked_line, asked_once, bad_line, filed_by_line, filed_if, is_done_reply, line_at, line_with, once_ticked, ticked_before, ticked_if}
 use Rattle.scripts.specs.PlannedTests.{comes_to, replies}
 use Rattle.scripts.specs.declared.planned_said.LineOutcome.{LineOutcome}
 use Rattle.scripts.specs.declared.planned_said.LineSaid.{LineSaid}
@@ -82,6 +84,24 @@ pub answered_given : (at : ℕ) (reply : Option Reply) (mid s : State) (tick fau
 answered_given at reply mid s tick fault planned l o u same is given =
     line_given reply mid (ticked_before tick s (line_at l)) fault planned l o u (subst (λ (m : ℕ). IsTicked reply mid (ticked_before tick s m)) same is) given
 
+-- ---- the commits
+
+-- after the tick of a line
+line_asks : (old new : KeeperSeen) (reply : Option Reply) (mid : State) (t : Stepped) (fault : Option ℕ) (planned : List Filed) (l : PlannedLine) → IsTicked reply mid t
+    → Asks old new (asked_once fault reply mid (comes_to mid planned l)) → Asks old new (asked_after fault t planned l)
+line_asks old new reply mid t fault planned l is asks =
+    subst (λ (r : Option Reply). Asks old new (asked_once fault r t.state (comes_to t.state planned l))) is.reply_is
+    (subst (λ (s : State). Asks old new (asked_once fault reply s (comes_to s planned l))) is.state_is asks)
+
+-- of the tick before a line, whose moment code has read, and then of the line
+pub answered_asks : (old middle new : KeeperSeen) (at : ℕ) (reply : Option Reply) (mid s : State) (tick fault : Option ℕ) (planned : List Filed) (l : PlannedLine) → at ≡ line_at l
+    → IsTicked reply mid (ticked_before tick s at) → Asks old middle (asked_before tick s at) → Asks middle new (asked_once fault reply mid (comes_to mid planned l))
+    → Asks old new (asked_line (record { tick = tick; call = fault }) s planned (Ok l))
+answered_asks old middle new at reply mid s tick fault planned l same is before after =
+    let t : Stepped = ticked_before tick s (line_at l) in
+    asks_on old middle new (asked_before tick s (line_at l)) (asked_after fault t planned l) (subst (λ (m : ℕ). Asks old middle (asked_before tick s m)) same before)
+    (line_asks middle new reply mid t fault planned l (subst (λ (m : ℕ). IsTicked reply mid (ticked_before tick s m)) same is) after)
+
 -- a line whose tick was refused files nothing
 pub refused_files : (l : PlannedLine) (o : Option Reply) (reply : Reply) (says : LineSaid) (planned : List Filed) → o ≡ Some reply → IfSome o IsNotDone → says ≡ replies reply
     → planned ≡ filed_by_line l says planned
@@ -96,8 +116,8 @@ refused_files l o reply says planned is not_done said =
     by (Turn at actor key number release) none = refl
 
 -- a malformed line
-pub bad_answered : (faults : ℕ) (s : State) (planned : List Filed) (i : PlannedItem) (fault : BadCall) (o : LineOutcome) → i ≡ Err fault → o ≡ (bad_line s fault).outcome
-    → IsLineAnswered faults faults s planned i s planned o
-bad_answered faults s planned i fault o is outcome =
-    subst (λ (x : PlannedItem). IsLineAnswered faults faults s planned x s planned o) (sym is)
-    (record { choice = no_choice; counted = omega arith; outcome_is = outcome; state_is = refl; filed_is = refl })
+pub bad_answered : (kept : KeptAt) (s : State) (planned : List Filed) (i : PlannedItem) (fault : BadCall) (o : LineOutcome) → i ≡ Err fault → o ≡ (bad_line s fault).outcome
+    → IsLineAnswered kept kept s planned i s planned o
+bad_answered kept s planned i fault o is outcome =
+    subst (λ (x : PlannedItem). IsLineAnswered kept kept s planned x s planned o) (sym is)
+    (record { choice = no_choice; counted = omega arith; stored = sym (append-nil kept.stored); outcome_is = outcome; state_is = refl; filed_is = refl })

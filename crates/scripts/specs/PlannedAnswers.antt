@@ -1,11 +1,11 @@
 -- The answer to a line, as code returns it.
-use Rattle.std.specs.Prelude.{◌≡◌, ℕ, false, List, [], ◌∷◌, Option}
+use Rattle.std.specs.Prelude.{◌≡◌, false, List, [], ◌∷◌, ◌++◌, Option}
 use Rattle.asks.specs.declared.reply.Reply.{Reply}
-use Rattle.desk.specs.Keeping.{Choice, Counted}
+use Rattle.desk.specs.Keeping.{Choice, Counted, KeptAt}
 use Rattle.desk_state.specs.State.{State}
 use Rattle.desk_state.specs.Step.{Stepped}
 use Rattle.redispatch.specs.declared.planned.Filed.{Filed}
-use Rattle.scripts.specs.PlannedRuns.{PlannedItem, LineGiven, line_with, filed_by, is_done_reply}
+use Rattle.scripts.specs.PlannedRuns.{PlannedItem, LineGiven, asked_line, line_with, filed_by, is_done_reply}
 use Rattle.scripts.specs.declared.planned_lines.LineAnswered.{LineAnswered}
 use Rattle.scripts.specs.declared.planned_said.Came.{Came}
 use Rattle.scripts.specs.declared.planned_said.Came.TheVariants.{Says, Makes}
@@ -35,10 +35,12 @@ IsNotDone reply = is_done_reply reply ≡ false
 abbrev pub choice_of : LineAnswered → Choice
 choice_of r = record { tick = r.tick; call = r.call }
 
--- the answer to a line, and the plans filed after it, under some choice that the keeper's counts allow
-pub record IsLineAnswered (before after : ℕ) (s : State) (planned : List Filed) (i : PlannedItem) (t : State) (filed : List Filed) (o : LineOutcome) : Type 0 where
+-- The answer to a line, and the plans filed after it, under some choice that the keeper's counts allow, with the line's
+-- commits.
+pub record IsLineAnswered (before after : KeptAt) (s : State) (planned : List Filed) (i : PlannedItem) (t : State) (filed : List Filed) (o : LineOutcome) : Type 0 where
   pub choice : Choice
-  pub counted : Counted before (choice ∷ []) after
+  pub counted : Counted before.faults (choice ∷ []) after.faults
+  pub stored : after.stored ≡ before.stored ++ asked_line choice s planned i
   pub outcome_is : o ≡ (line_with choice s planned i).outcome
   pub state_is : t ≡ (line_with choice s planned i).state
   pub filed_is : filed ≡ filed_by i o.said planned

@@ -3,6 +3,7 @@
 use Rattle.std.specs.Prelude.{◌≡◌, ◌⊎◌, ℕ, ◌+◌, ◌-◌, ◌<◌, ◌≤◌, nat_le, MatchBool, List, [], ◌++◌, length, take, slice_get, Some, None, Ok, Err}
 use Rattle.asks.specs.declared.call.Call.{Call}
 use Rattle.asks.specs.declared.reply.Reply.{Reply}
+use Rattle.desk.specs.Keeping.{KeptAt}
 use Rattle.desk.specs.Positions.{Accepts, IsAnswered, IsEntryOf, IsRefusedBy, IsUnkept, prefix}
 use Rattle.desk.specs.Run.{lines_of}
 use Rattle.desk_json.specs.declared.planned.PlannedLine.TheVariants.{Asked, File, Check, Turn}
@@ -173,7 +174,8 @@ pub record IsPlannedHistory (low high : ℕ) (s : State) (script : List ℕ) (t 
   pub legal : Legal s entries t
   pub merged : AreInPlannedHistory low high s [] (planned_items (lines_of script)) outcomes entries
 
--- A run of a script: the text follows from its lines in turn, and by their positions in one history.
-pub record IsPlanned (before after : ℕ) (s : State) (script : List ℕ) (t : State) (text : List ℕ) : Type 0 where
+-- A run of a script: the text and the keeper's commits follow from its lines in turn, and the text by their positions in
+-- one history.
+pub record IsPlanned (before after : KeptAt) (s : State) (script : List ℕ) (t : State) (text : List ℕ) : Type 0 where
   pub run : IsPlannedRun before after s script t text
-  pub history : IsPlannedHistory before after s script t text
+  pub history : IsPlannedHistory before.faults after.faults s script t text

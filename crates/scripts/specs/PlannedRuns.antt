@@ -3,7 +3,7 @@ use Rattle.std.specs.Prelude.{◌≡◌, ℕ, nat_lt, Bool, true, false, List, [
 use Rattle.asks.specs.declared.bad_call.BadCall.{BadCall}
 use Rattle.asks.specs.declared.reply.Reply.{Reply}
 use Rattle.asks.specs.declared.reply.Reply.TheVariants.{Done, Seen, Refused}
-use Rattle.desk.specs.Keeping.{Choice, no_choice, Counted, made_with, ticked_with}
+use Rattle.desk.specs.Keeping.{Choice, no_choice, Counted, KeptAt, KeptLater, adds, asked_if, made_with, ticked_with}
 use Rattle.desk.specs.Run.{lines_of, said_text}
 use Rattle.desk.specs.Settled.{MayHaveTicked}
 use Rattle.desk_json.specs.LineReplies.{line_refusal_text}
@@ -12,7 +12,7 @@ use Rattle.desk_json.specs.declared.planned.PlannedLine.{PlannedLine}
 use Rattle.desk_json.specs.declared.planned.PlannedLine.TheVariants.{Asked, File, Check, Turn}
 use Rattle.desk_state.specs.Lanes.{said_of}
 use Rattle.desk_state.specs.State.{State}
-use Rattle.desk_state.specs.Step.{Stepped}
+use Rattle.desk_state.specs.Step.{Stepped, answer_call, tick_to}
 use Rattle.desk_state.specs.Texts.{closing}
 use Rattle.desk_state.specs.declared.lanes.Said.TheVariants as said
 use Rattle.redispatch.specs.Filed.{final_plan, once_filed}
@@ -84,6 +84,36 @@ abbrev pub line_with : Choice → State → List Filed → PlannedItem → LineG
 line_with c s planned (Err fault) = bad_line s fault
 line_with c s planned (Ok l) = after_tick c.call (ticked_before c.tick s (line_at l)) planned l
 
+-- ---- the commits that are requested
+
+-- A line that comes to a call requests the commit of that call, if it adds an entry. The call of a turn is its amendment.
+-- A line that comes to anything else requests none.
+abbrev pub asked_of : Option ℕ → State → Came → List Bool
+asked_of fault u (Says says) = []
+asked_of fault u (Makes call) = asked_if (adds u (answer_call u 1 call)) fault
+
+-- If the tick was refused, the line requests no other commit.
+abbrev pub asked_once : Option ℕ → Option Reply → State → Came → List Bool
+asked_once fault None u came = asked_of fault u came
+asked_once fault (Some reply) u came = []
+
+-- the commit of the tick that comes before a line with a later moment
+abbrev pub asked_later : Bool → Option ℕ → State → ℕ → List Bool
+asked_later false fault s at = []
+asked_later true fault s at = asked_if (adds s (tick_to s 1 at)) fault
+
+abbrev pub asked_before : Option ℕ → State → ℕ → List Bool
+asked_before fault s at = asked_later (nat_lt s.moment at) fault s at
+
+-- after its tick, a line requests the commit of what it comes to in the state then
+abbrev pub asked_after : Option ℕ → Stepped → List Filed → PlannedLine → List Bool
+asked_after fault t planned l = asked_once fault t.reply t.state (comes_to t.state planned l)
+
+-- The commits of a line under a choice, each with whether it is stored: that of its tick, then that of its call.
+abbrev pub asked_line : Choice → State → List Filed → PlannedItem → List Bool
+asked_line c s planned (Err fault) = []
+asked_line c s planned (Ok l) = asked_before c.tick s (line_at l) ++ asked_after c.call (ticked_before c.tick s (line_at l)) planned l
+
 -- ---- the plans that lines filed
 
 abbrev pub is_done_reply : Reply → Bool
@@ -141,6 +171,13 @@ after_lines s planned [] choices = s
 after_lines s planned (i ∷ rest) choices =
     after_lines (line_with (first_choice choices) s planned i).state (filed_by i (line_with (first_choice choices) s planned i).outcome.said planned) rest (later_choices choices)
 
+-- the commits of the lines, each line under its choice
+abbrev pub asked_lines : State → List Filed → List PlannedItem → List Choice → List Bool
+asked_lines s planned [] choices = []
+asked_lines s planned (i ∷ rest) choices =
+    asked_line (first_choice choices) s planned i
+    ++ asked_lines (line_with (first_choice choices) s planned i).state (filed_by i (line_with (first_choice choices) s planned i).outcome.said planned) rest (later_choices choices)
+
 -- ---- the text
 
 abbrev pub line_text : LineSaid → List ℕ
@@ -154,18 +191,20 @@ abbrev pub lines_text : List LineOutcome → List ℕ
 lines_text [] = []
 lines_text (o ∷ rest) = outcome_text o ++ lines_text rest
 
--- A run of lines from one state to another, under some choices that the keeper's counts allow. Nothing is filed before
--- the first line. The text has a line for each, then the closing text.
-pub record IsPlannedRunOf (before after : ℕ) (s : State) (items : List PlannedItem) (t : State) (text : List ℕ) : Type 0 where
+-- A run of lines from one state to another, under some choices that the keeper's counts allow. Its commits are those of
+-- the lines, in order, and each failed exactly where a choice says so. Nothing is filed before the first line. The text
+-- has a line for each, then the closing text.
+pub record IsPlannedRunOf (before after : KeptAt) (s : State) (items : List PlannedItem) (t : State) (text : List ℕ) : Type 0 where
   pub choices : List Choice
-  pub counted : Counted before choices after
+  pub counted : Counted before.faults choices after.faults
+  pub stored : after.stored ≡ before.stored ++ asked_lines s [] items choices
   pub says : text ≡ lines_text (lines_with s [] items choices) ++ closing t
   pub state : t ≡ after_lines s [] items choices
   -- if the keeper's count didn't rise, every step was stored
-  pub steady : after ≡ before → text ≡ lines_text (lines_with s [] items []) ++ closing (after_lines s [] items [])
+  pub steady : after.faults ≡ before.faults → text ≡ lines_text (lines_with s [] items []) ++ closing (after_lines s [] items [])
 
 -- a run of a script
-abbrev pub IsPlannedRun : ℕ → ℕ → State → List ℕ → State → List ℕ → Type 0
+abbrev pub IsPlannedRun : KeptAt → KeptAt → State → List ℕ → State → List ℕ → Type 0
 IsPlannedRun before after s script t text = IsPlannedRunOf before after s (planned_items (lines_of script)) t text
 
 -- ---- in part
@@ -177,13 +216,17 @@ MayHaveBegunLine (Err fault ∷ rest) s t = t ≡ s
 MayHaveBegunLine (Ok l ∷ rest) s t = MayHaveTicked 1 (line_at l) s t
 
 -- Memory ran out among lines. A prefix of them was answered. Of the next line at most the tick was made.
-pub record IsPlannedInPartOf (before after : ℕ) (s : State) (items : List PlannedItem) (t : State) : Type 0 where
+pub record IsPlannedInPartOf (before after : KeptAt) (s : State) (items : List PlannedItem) (t : State) : Type 0 where
   pub front : List PlannedItem
   pub left : List PlannedItem
   pub choices : List Choice
   pub whole : items ≡ front ++ left
-  pub counted : Counted before choices after
+  -- what the keeper had come to after the prefix
+  pub kept : KeptAt
+  pub counted : Counted before.faults choices kept.faults
+  pub stored : kept.stored ≡ before.stored ++ asked_lines s [] front choices
+  pub later : KeptLater kept after
   pub state : MayHaveBegunLine left (after_lines s [] front choices) t
 
-abbrev pub IsPlannedInPart : ℕ → ℕ → State → List ℕ → State → Type 0
+abbrev pub IsPlannedInPart : KeptAt → KeptAt → State → List ℕ → State → Type 0
 IsPlannedInPart before after s script t = IsPlannedInPartOf before after s (planned_items (lines_of script)) t

@@ -1,5 +1,6 @@
 ghost use Rattle.std.specs.Prelude.{◌≡◌, ◌∷◌, ◌++◌, [], IfOk, OnErr, OnOk};
 ghost use Rattle.std.specs.List.{AllByRecursion};
+ghost use Rattle.desk.specs.Keeping.{kept_at};
 ghost use Rattle.desk.specs.Seen.{desk_seen, DeskGoesOn};
 ghost use Rattle.desk_json.specs.PlannedLines.{PlannedHasForms, planned_or_fault};
 ghost use Rattle.desk_state.specs.PlanHistory.{AreReplacedInTurn};
@@ -61,8 +62,8 @@ fn answer_well<K: Keeper, B: Bell, L: Ledger>(
 ) -> Result<LineOutcome, OutOfMemory>
     requires forms { PlannedHasForms line }
     requires plans { AllByRecursion HasFormedPlan planned.old }
-    ensures answered { IfOk result (λ o. IsLineAnswered (K.seen desk.old.keeper).health.faults
-        (K.seen desk.new.keeper).health.faults desk.old.board.state planned.old (Ok line)
+    ensures answered { IfOk result (λ o. IsLineAnswered (kept_at (K.seen desk.old.keeper))
+        (kept_at (K.seen desk.new.keeper)) desk.old.board.state planned.old (Ok line)
         desk.new.board.state planned.new o) }
     ensures shown { IfOk result (λ o. CanBeSaidOfLine o.said) }
     ensures err { OnErr result (spec.MayHaveBegunLine (Ok line ∷ []) desk.old.board.state desk.new.board.state) }
@@ -82,8 +83,8 @@ fn answer_item<K: Keeper, B: Bell, L: Ledger>(
 ) -> Result<LineOutcome, OutOfMemory>
     requires forms { IfOk item PlannedHasForms }
     requires plans { AllByRecursion HasFormedPlan planned.old }
-    ensures answered { IfOk result (λ o. IsLineAnswered (K.seen desk.old.keeper).health.faults
-        (K.seen desk.new.keeper).health.faults desk.old.board.state planned.old item
+    ensures answered { IfOk result (λ o. IsLineAnswered (kept_at (K.seen desk.old.keeper))
+        (kept_at (K.seen desk.new.keeper)) desk.old.board.state planned.old item
         desk.new.board.state planned.new o) }
     ensures shown { IfOk result (λ o. CanBeSaidOfLine o.said) }
     ensures err { OnErr result (spec.MayHaveBegunLine (item ∷ []) desk.old.board.state desk.new.board.state) }
@@ -107,8 +108,8 @@ fn answer_passed<K: Keeper, B: Bell, G: Gate, L: Ledger>(
 ) -> Result<LineOutcome, OutOfMemory>
     requires forms { IfOk item PlannedHasForms }
     requires plans { AllByRecursion HasFormedPlan planned.old }
-    ensures answered { IfOk result (λ o. IsLineAnswered (K.seen desk.old.keeper).health.faults
-        (K.seen desk.new.keeper).health.faults desk.old.board.state planned.old item
+    ensures answered { IfOk result (λ o. IsLineAnswered (kept_at (K.seen desk.old.keeper))
+        (kept_at (K.seen desk.new.keeper)) desk.old.board.state planned.old item
         desk.new.board.state planned.new o) }
     ensures shown { IfOk result (λ o. CanBeSaidOfLine o.said) }
     ensures err { OnErr result (spec.MayHaveBegunLine (item ∷ []) desk.old.board.state desk.new.board.state) }
@@ -158,12 +159,12 @@ fn text_of_lines<K: Keeper, B: Bell, G: Gate, L: Ledger>(
     gate: &G,
     steps: &mut Steps<L>,
 ) -> Result<Vec<u8>, OutOfMemory>
-    ensures run { IfOk result (λ v. IsPlannedRunOf (K.seen desk.old.keeper).health.faults
-        (K.seen desk.new.keeper).health.faults desk.old.board.state (spec.planned_items lines.now)
+    ensures run { IfOk result (λ v. IsPlannedRunOf (kept_at (K.seen desk.old.keeper))
+        (kept_at (K.seen desk.new.keeper)) desk.old.board.state (spec.planned_items lines.now)
         desk.new.board.state v.items) }
     ensures forms { OnOk result (AllByRecursion IsLineFormed (spec.planned_items lines.now)) }
-    ensures err { OnErr result (IsPlannedInPartOf (K.seen desk.old.keeper).health.faults
-        (K.seen desk.new.keeper).health.faults desk.old.board.state (spec.planned_items lines.now)
+    ensures err { OnErr result (IsPlannedInPartOf (kept_at (K.seen desk.old.keeper))
+        (kept_at (K.seen desk.new.keeper)) desk.old.board.state (spec.planned_items lines.now)
         desk.new.board.state) }
     ensures on { DeskGoesOn (desk_seen K.seen B.seen desk.old) (desk_seen K.seen B.seen desk.new) }
 {
@@ -199,13 +200,15 @@ pub fn planned_text<K: Keeper, B: Bell, G: Gate, L: Ledger>(
     gate: &G,
     steps: &mut Steps<L>,
 ) -> Result<Vec<u8>, OutOfMemory>
-    // Each line gets the answer that its state and the plans filed so far determine. One history has the outcomes of all
+    // Each line gets the answer that its state and the plans filed so far determine. The keeper's commits are those of
+    // the lines, in order. A step is refused as `Unkept` exactly if its commit failed. One history has the outcomes of all
     // lines, each by its position in it. A turn with a new number is accepted only if its final plan fails no rule then.
-    ensures run { IfOk result (λ v. IsPlanned (K.seen desk.old.keeper).health.faults
-        (K.seen desk.new.keeper).health.faults desk.old.board.state script.now desk.new.board.state v.items) }
-    // If memory runs out, a prefix of the lines was answered. Of the next line at most the tick was made.
-    ensures err { OnErr result (IsPlannedInPart (K.seen desk.old.keeper).health.faults
-        (K.seen desk.new.keeper).health.faults desk.old.board.state script.now desk.new.board.state) }
+    ensures run { IfOk result (λ v. IsPlanned (kept_at (K.seen desk.old.keeper))
+        (kept_at (K.seen desk.new.keeper)) desk.old.board.state script.now desk.new.board.state v.items) }
+    // If memory runs out, a prefix of the lines was answered, with its commits. Of the next line at most the tick was
+    // made.
+    ensures err { OnErr result (IsPlannedInPart (kept_at (K.seen desk.old.keeper))
+        (kept_at (K.seen desk.new.keeper)) desk.old.board.state script.now desk.new.board.state) }
     // An active plan changes only at a concurrence, at which no rule fails against the new plan.
     ensures plans { AreReplacedInTurn desk.new.board.opening desk.new.board.state.entries }
     ensures on { DeskGoesOn (desk_seen K.seen B.seen desk.old) (desk_seen K.seen B.seen desk.new) }

@@ -2,7 +2,7 @@ ghost use Rattle.std.specs.Prelude.{◌≡◌, ◌≤◌, ◌∷◌, [], length,
 ghost use Rattle.std.specs.List.{AllByRecursion};
 ghost use Rattle.asks.specs.Ranges.{ReplyHasMoment};
 ghost use Rattle.asks.specs.Forms.{CallHasForms};
-ghost use Rattle.desk.specs.Keeping.{Counted, CountedOnce};
+ghost use Rattle.desk.specs.Keeping.{Asks, Counted, CountedOnce};
 ghost use Rattle.desk.specs.Seen.{desk_seen, DeskGoesOn};
 ghost use Rattle.desk.specs.Settled.{MayHaveTicked};
 ghost use Rattle.desk_json.specs.PlannedLines.{PlannedHasForms};
@@ -79,6 +79,8 @@ fn tick_first<K: Keeper, B: Bell, L: Ledger>(
     ensures shown { IfOk result (λ r. IfSome r.reply ReplyHasMoment) }
     ensures count { IfOk result (λ r. CountedOnce (K.seen desk.old.keeper).health.faults r.fault
         (K.seen desk.new.keeper).health.faults) }
+    ensures asks { IfOk result (λ r. Asks (K.seen desk.old.keeper) (K.seen desk.new.keeper)
+        (spec.asked_before r.fault desk.old.board.state at)) }
     ensures may { IfOk result (λ r. MayHaveTicked 1 at desk.old.board.state desk.new.board.state) }
     ensures err { OnErr result (desk.new.board.state ≡ desk.old.board.state) }
     ensures on { DeskGoesOn (desk_seen K.seen B.seen desk.old) (desk_seen K.seen B.seen desk.new) }
@@ -120,6 +122,8 @@ fn made<K: Keeper, B: Bell, L: Ledger>(
     ensures shown { IfOk result (λ r. CanBeSaidOfLine r.outcome.said) }
     ensures count { IfOk result (λ r. CountedOnce (K.seen desk.old.keeper).health.faults r.fault
         (K.seen desk.new.keeper).health.faults) }
+    ensures asks { IfOk result (λ r. Asks (K.seen desk.old.keeper) (K.seen desk.new.keeper)
+        (spec.asked_of r.fault desk.old.board.state (Makes call.now))) }
     ensures err { OnErr result (desk.new.board.state ≡ desk.old.board.state) }
     ensures on { DeskGoesOn (desk_seen K.seen B.seen desk.old) (desk_seen K.seen B.seen desk.new) }
 {
@@ -160,6 +164,8 @@ fn done<K: Keeper, B: Bell, L: Ledger>(
     ensures shown { IfOk result (λ r. CanBeSaidOfLine r.outcome.said) }
     ensures count { IfOk result (λ r. CountedOnce (K.seen desk.old.keeper).health.faults r.fault
         (K.seen desk.new.keeper).health.faults) }
+    ensures asks { IfOk result (λ r. Asks (K.seen desk.old.keeper) (K.seen desk.new.keeper)
+        (spec.asked_of r.fault desk.old.board.state came)) }
     ensures err { OnErr result (desk.new.board.state ≡ desk.old.board.state) }
     ensures on { DeskGoesOn (desk_seen K.seen B.seen desk.old) (desk_seen K.seen B.seen desk.new) }
 {
@@ -185,6 +191,8 @@ fn come_and_done<K: Keeper, B: Bell, L: Ledger>(
     ensures shown { IfOk result (λ r. CanBeSaidOfLine r.outcome.said) }
     ensures count { IfOk result (λ r. CountedOnce (K.seen desk.old.keeper).health.faults r.fault
         (K.seen desk.new.keeper).health.faults) }
+    ensures asks { IfOk result (λ r. Asks (K.seen desk.old.keeper) (K.seen desk.new.keeper)
+        (spec.asked_of r.fault desk.old.board.state (comes_to desk.old.board.state planned.old line))) }
     ensures err { OnErr result (desk.new.board.state ≡ desk.old.board.state) }
     ensures on { DeskGoesOn (desk_seen K.seen B.seen desk.old) (desk_seen K.seen B.seen desk.new) }
 {
@@ -211,6 +219,9 @@ fn once_ticked<K: Keeper, B: Bell, L: Ledger>(
     ensures shown { IfOk result (λ r. CanBeSaidOfLine r.outcome.said) }
     ensures count { IfOk result (λ r. CountedOnce (K.seen desk.old.keeper).health.faults r.fault
         (K.seen desk.new.keeper).health.faults) }
+    ensures asks { IfOk result (λ r. Asks (K.seen desk.old.keeper) (K.seen desk.new.keeper)
+        (spec.asked_once r.fault reply desk.old.board.state
+        (comes_to desk.old.board.state planned.old line))) }
     ensures err { OnErr result (desk.new.board.state ≡ desk.old.board.state) }
     ensures on { DeskGoesOn (desk_seen K.seen B.seen desk.old) (desk_seen K.seen B.seen desk.new) }
 {
@@ -237,6 +248,8 @@ pub(crate) fn answer_line<K: Keeper, B: Bell, L: Ledger>(
     ensures shown { IfOk result (λ r. CanBeSaidOfLine r.outcome.said) }
     ensures count { IfOk result (λ r. Counted (K.seen desk.old.keeper).health.faults (choice_of r ∷ [])
         (K.seen desk.new.keeper).health.faults) }
+    ensures asks { IfOk result (λ r. Asks (K.seen desk.old.keeper) (K.seen desk.new.keeper)
+        (spec.asked_line (choice_of r) desk.old.board.state planned.old (Ok line))) }
     ensures err { OnErr result (MayHaveTicked 1 (spec.line_at line) desk.old.board.state desk.new.board.state) }
     ensures on { DeskGoesOn (desk_seen K.seen B.seen desk.old) (desk_seen K.seen B.seen desk.new) }
 {

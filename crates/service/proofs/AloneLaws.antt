@@ -23,7 +23,7 @@ use Rattle.service.specs.Requested.{requested_by}
 use Rattle.service.specs.declared.requested.Requested.{Requested}
 use Rattle.service.specs.declared.requested.Requested.TheVariants as requested
 use Rattle.service.specs.declared.responses.Response.{Response}
-use Rattle.service.proofs.ResponseLaws.{calls_is, uncalled, uncalled_by}
+use Rattle.service.proofs.ResponseLaws.{calls_is, no_view, uncalled, uncalled_by}
 
 -- ---- one after another
 
@@ -36,14 +36,14 @@ come_more : (lane : ℕ) (early late : Option Dial) (failed clock : Type 0) (s t
     → ComeTo lane early late clock s t xs last
 come_more lane early late failed clock s t [] last more come = leaves_more lane early late failed clock s t last more come
 come_more lane early late failed clock s t (x ∷ xs) last more come =
-    (come.0, come.1, come_more lane (dial_after_one (requested_by x.wire) early) late failed clock (exchange lane x).state t xs last more come.2)
+    (come.0, come.1, come_more lane (dial_after_one (requested_by x.wire) early) late failed clock (exchange false lane x).state t xs last more come.2)
 
 come_on : (lane : ℕ) (early noon late : Option Dial) (first clock : Type 0) (s u t : State) (xs ys : List Exchange) (last : Last) → ComeTo lane early noon first s u xs Answered
     → ComeTo lane noon late clock u t ys last → ComeTo lane early late clock s t (xs ++ ys) last
 come_on lane early noon late first clock s u t [] ys last one two =
     subst (λ (v : State). ComeTo lane early late clock v t ys last) one.1 (subst (λ (d : Option Dial). ComeTo lane d late clock u t ys last) one.0 two)
 come_on lane early noon late first clock s u t (x ∷ xs) ys last one two =
-    (one.0, one.1, come_on lane (dial_after_one (requested_by x.wire) early) noon late first clock (exchange lane x).state u t xs ys last one.2 two)
+    (one.0, one.1, come_on lane (dial_after_one (requested_by x.wire) early) noon late first clock (exchange false lane x).state u t xs ys last one.2 two)
 
 pub goes_none : (lane : ℕ) (clock : ClockSeen) (count : ℕ) (s : State) → GoesAlone lane clock clock count count s s [] Answered
 goes_none lane clock count s = record { counted = omega arith; come = (refl, refl) }
@@ -60,7 +60,7 @@ goes_on lane early noon late before middle after s u t goes xs ys last one two =
 -- a fault of the clock ends the answering only where the clock has failed
 clock_fails : (lane : ℕ) (early late : Option Dial) (clock : Type 0) (s t : State) (xs : List Exchange) → ComeTo lane early late clock s t xs ClockFailed → clock
 clock_fails lane early late clock s t [] come = come.0
-clock_fails lane early late clock s t (x ∷ xs) come = clock_fails lane (dial_after_one (requested_by x.wire) early) late clock (exchange lane x).state t xs come.2
+clock_fails lane early late clock s t (x ∷ xs) come = clock_fails lane (dial_after_one (requested_by x.wire) early) late clock (exchange false lane x).state t xs come.2
 
 pub goes_failed : (lane : ℕ) (early late : ClockSeen) (before after : ℕ) (s t : State) (xs : List Exchange) → GoesAlone lane early late before after s t xs ClockFailed → HasFailed early.health late.health
 goes_failed lane early late before after s t xs goes = clock_fails lane early.dial late.dial (HasFailed early.health late.health) s t xs goes.come
@@ -69,7 +69,7 @@ goes_failed lane early late before after s t xs goes = clock_fails lane early.di
 
 -- a call that was made
 abbrev called : State → Wire → ℕ → Choice → Exchange
-called s wire at choice = record { wire = wire; turn = record { place = 0; at = at; choice = choice }; from = s }
+called s wire at choice = record { wire = wire; turn = record { place = 0; at = at; choice = choice }; from = s; view = no_view s }
 
 goes_called : (lane : ℕ) (early late : ClockSeen) (before after : ℕ) (s t : State) (wire : Wire) (call : Call) (at : ℕ) (choice : Choice) → requested_by wire ≡ requested.Call call
     → IsClockMoment early.dial at → late.dial ≡ turned early.dial → Counted before (choice ∷ []) after → t ≡ (answer_with choice lane s at call).state
@@ -87,7 +87,7 @@ goes_called lane early late before after s t wire call at choice is timed turns 
 pub call_responds : (lane : ℕ) (early late : ClockSeen) (before after : ℕ) (s t : State) (wire : Wire) (call : Call) (at : ℕ) (choice : Choice) (says : Said) (r : Result Response Unanswered)
     → requested_by wire ≡ requested.Call call → IsClockMoment early.dial at → late.dial ≡ turned early.dial → Counted before (choice ∷ []) after
     → says ≡ (answer_with choice lane s at call).outcome.said → t ≡ (answer_with choice lane s at call).state → IfOk r (λ x. x ≡ said_response says) → IfErr r (λ e. e ≡ NoMemory)
-    → Responds lane (GoesAlone lane early late before after s t) wire r
+    → Responds false lane (GoesAlone lane early late before after s t) wire r
 call_responds lane early late before after s t wire call at choice says (Ok x) is timed turns counted said state one two = (
   called s wire at choice,
   refl,
@@ -100,12 +100,12 @@ call_responds lane early late before after s t wire call at choice says (Err NoM
 
 -- the clock failed
 pub clock_responds : (lane : ℕ) (early late : ClockSeen) (count : ℕ) (s : State) (wire : Wire) (call : Call) → requested_by wire ≡ requested.Call call → HasFailed early.health late.health
-    → late.dial ≡ early.dial → Responds lane (GoesAlone lane early late count count s s) wire (Err ByClock)
+    → late.dial ≡ early.dial → Responds false lane (GoesAlone lane early late count count s s) wire (Err ByClock)
 clock_responds lane early late count s wire call is failed stands = (calls_is wire call is, record { counted = omega arith; come = (failed, (stands, refl)) })
 
 -- memory ran out within the call
 pub memory_responds : (lane : ℕ) (early late : ClockSeen) (before after : ℕ) (s t : State) (wire : Wire) (call : Call) (at : ℕ) → requested_by wire ≡ requested.Call call → before ≤ after
-    → IsClockMoment early.dial at → late.dial ≡ turned early.dial → MayHaveTicked lane at s t → Responds lane (GoesAlone lane early late before after s t) wire (Err NoMemory)
+    → IsClockMoment early.dial at → late.dial ≡ turned early.dial → MayHaveTicked lane at s t → Responds false lane (GoesAlone lane early late before after s t) wire (Err NoMemory)
 memory_responds lane early late before after s t wire call at is later timed turns ticked = inr (inl (calls_is wire call is, record { counted = later; come = (turns, (at, timed, ticked)) }))
 
 -- ---- what is no call
@@ -129,7 +129,7 @@ same_state requested.NoRoute lane s none = refl
 same_state requested.WrongMethod lane s none = refl
 
 pub uncalled_responds : (lane : ℕ) (clock : ClockSeen) (count : ℕ) (s : State) (wire : Wire) (asked : Requested) (r : Response) → asked ≡ requested_by wire → makes_call asked ≡ false
-    → r ≡ uncalled_response asked → Responds lane (GoesAlone lane clock clock count count s s) wire (Ok r)
+    → r ≡ uncalled_response asked → Responds false lane (GoesAlone lane clock clock count count s s) wire (Ok r)
 uncalled_responds lane clock count s wire asked r is none same =
     let no_call : makes_call (requested_by wire) ≡ false = ap makes_call (sym is) ∙ none in (
       uncalled s wire,

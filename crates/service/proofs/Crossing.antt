@@ -6,7 +6,7 @@ use Rattle.alerts.specs.declared.bell.Bell as Bell
 use Rattle.desk.proofs.Crossing.{Desk_send}
 use Rattle.desk_net.specs.declared.outside.Clock as Clock
 use Rattle.keeper.specs.declared.keeping.Keeper as Keeper
-use Rattle.service.specs.contracts.events.Events as Events
+use Rattle.service.specs.contracts.event_list.Events as Events
 use Rattle.service.specs.contracts.shared.Shared as Shared
 use Rattle.service.specs.declared.opened.Opened as Opened
 use Rattle.workers.proofs.Crossing.{Record_send}

@@ -1,5 +1,5 @@
 -- What ends a connection.
-use Rattle.std.proofs.Common.{◌≡◌, ◌≢◌, ℕ, List, [], ◌++◌, Option, None, Some, inl, inr, refl, subst}
+use Rattle.std.proofs.Common.{false, ◌≡◌, ◌≢◌, ℕ, List, [], ◌++◌, Option, None, Some, inl, inr, refl, subst}
 use Rattle.connections.specs.Connections.{Answered, AreRequests, IsConnection, Kind, Last, OnBoth}
 use Rattle.connections.specs.declared.serving.Served.{Served}
 use Rattle.connections.specs.declared.serving.Served.TheVariants as served
@@ -12,15 +12,15 @@ use Rattle.service.proofs.AloneLaws.{goes_failed}
 
 -- a connection ends by a fault of the clock only where the clock has failed
 ends_clock : (lane : ℕ) (early late : ClockSeen) (link : Type 0) (before after : ℕ) (s t : State) (bytes rest : Option (List ℕ)) (how : Served) (text : List ℕ) → how ≡ served.ClockFault
-    → IsConnection (in_lane lane) (GoesAlone lane early late before after s t) link bytes rest how text → HasFailed early.health late.health
+    → IsConnection (in_lane false lane) (GoesAlone lane early late before after s t) link bytes rest how text → HasFailed early.health late.health
 ends_clock lane early late link before after s t bytes rest how text is one =
-    let by : IsConnection (in_lane lane) (GoesAlone lane early late before after s t) link bytes rest served.ClockFault text =
-    subst (λ (h : Served). IsConnection (in_lane lane) (GoesAlone lane early late before after s t) link bytes rest h text) is one in
+    let by : IsConnection (in_lane false lane) (GoesAlone lane early late before after s t) link bytes rest served.ClockFault text =
+    subst (λ (h : Served). IsConnection (in_lane false lane) (GoesAlone lane early late before after s t) link bytes rest h text) is one in
     goes_failed lane early late before after s t (by.xs ++ by.more) (subst (λ (last : Last). GoesAlone lane early late before after s t (by.xs ++ by.more) last) by.ends.1 by.goes_on)
 
 -- where the clock hasn't failed none ends by it
 pub not_by_clock : (lane : ℕ) (early late : ClockSeen) (link : Type 0) (before after : ℕ) (s t : State) (bytes rest : Option (List ℕ)) (how : Served) (text : List ℕ)
-    → IsConnection (in_lane lane) (GoesAlone lane early late before after s t) link bytes rest how text → (HasFailed early.health late.health → ⊥) → how ≢ served.ClockFault
+    → IsConnection (in_lane false lane) (GoesAlone lane early late before after s t) link bytes rest how text → (HasFailed early.health late.health → ⊥) → how ≢ served.ClockFault
 not_by_clock lane early late link before after s t bytes rest how text one never = λ is. never (ends_clock lane early late link before after s t bytes rest how text is one)
 
 -- where the link hasn't failed none ends by it, whoever answers

@@ -13,3 +13,5 @@ pub mod Crossing
 pub mod MinuteLaws
 pub mod StayingLaws
 pub mod TickLaws
+pub mod KeepsLaws
+pub mod PageLaws

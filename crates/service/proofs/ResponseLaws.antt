@@ -1,5 +1,5 @@
 -- What a request is answered, and what is written of it.
-use Rattle.std.proofs.Common.{◌≡◌, ◌≢◌, ℕ, Bool, true, false, List, Option, Some, None, Result, Ok, Err, inl, inr, refl, ap, ◌∙◌}
+use Rattle.std.proofs.Common.{◌≡◌, ◌≢◌, ℕ, Bool, true, false, List, [], Option, Some, None, Result, Ok, Err, inl, inr, refl, ap, ◌∙◌}
 use Rattle.asks.specs.declared.call.Call.{Call}
 use Rattle.connections.specs.Connections.{Answers, Last}
 use Rattle.connections.specs.Writing.{EndsAs, EndsWithout, WritesAll, WritesAnswer}
@@ -14,6 +14,7 @@ use Rattle.desk_http.specs.declared.wire.WireFault.TheVariants as fault
 use Rattle.desk_state.specs.State.{State}
 use Rattle.service.specs.Connections.{Exchange, IsTextOf, Responds, in_lane, makes_call, uncalled_response}
 use Rattle.service.specs.Exchanges.{bytes_of, exchanged}
+use Rattle.service.specs.Pages.{View}
 use Rattle.service.specs.Requested.{requested_by}
 use Rattle.service.specs.declared.requested.Requested.{Requested}
 use Rattle.service.specs.declared.requested.Requested.TheVariants as requested
@@ -22,9 +23,13 @@ use Rattle.service.specs.declared.responses.Response.{Response}
 pub calls_is : (wire : Wire) (call : Call) → requested_by wire ≡ requested.Call call → makes_call (requested_by wire) ≡ true
 calls_is wire call is = ap makes_call is
 
+-- a page that nobody asked for
+abbrev pub no_view : State → View
+no_view s = record { state = s; keeps = true; name = []; meters = [] }
+
 -- a request that is no call
 abbrev pub uncalled : State → Wire → Exchange
-uncalled s wire = record { wire = wire; turn = record { place = 0; at = 0; choice = no_choice }; from = s }
+uncalled s wire = record { wire = wire; turn = record { place = 0; at = 0; choice = no_choice }; from = s; view = no_view s }
 
 pub uncalled_by : (lane : ℕ) (s : State) (asked : Requested) → makes_call asked ≡ false → (exchanged no_choice lane s 0 asked).response ≡ uncalled_response asked
 uncalled_by lane s (requested.Call call) none = absurd (cc)
@@ -33,16 +38,16 @@ uncalled_by lane s requested.NoRoute none = refl
 uncalled_by lane s requested.WrongMethod none = refl
 
 -- the bytes of what is answered
-pub answers_of : (lane : ℕ) (goes : List Exchange → Last → Type 0) (wire : Wire) (responded : Result Response Unanswered) (result : Result (List ℕ) Unanswered)
-    → Responds lane goes wire responded → IsTextOf responded result → Answers (in_lane lane) goes wire result
-answers_of lane goes wire (Ok r) (Ok text) (x, is, same, on) whole = (x, is, whole ∙ ap bytes_of same, on)
-answers_of lane goes wire (Ok r) (Err ByClock) (x, is, same, on) why = absurd (cc)
-answers_of lane goes wire (Ok r) (Err NoMemory) (x, is, same, on) why = inr (inr (x, is, on))
-answers_of lane goes wire (Err why) (Ok text) responds never = absurd never
-answers_of lane goes wire (Err ByClock) (Err ByClock) responds why = responds
-answers_of lane goes wire (Err ByClock) (Err NoMemory) responds why = absurd (cc)
-answers_of lane goes wire (Err NoMemory) (Err ByClock) responds why = absurd (cc)
-answers_of lane goes wire (Err NoMemory) (Err NoMemory) responds why = responds
+pub answers_of : (pages : Bool) (lane : ℕ) (goes : List Exchange → Last → Type 0) (wire : Wire) (responded : Result Response Unanswered) (result : Result (List ℕ) Unanswered)
+    → Responds pages lane goes wire responded → IsTextOf responded result → Answers (in_lane pages lane) goes wire result
+answers_of pages lane goes wire (Ok r) (Ok text) (x, is, same, on) whole = (x, is, whole ∙ ap bytes_of same, on)
+answers_of pages lane goes wire (Ok r) (Err ByClock) (x, is, same, on) why = absurd (cc)
+answers_of pages lane goes wire (Ok r) (Err NoMemory) (x, is, same, on) why = inr (inr (x, is, on))
+answers_of pages lane goes wire (Err why) (Ok text) responds never = absurd never
+answers_of pages lane goes wire (Err ByClock) (Err ByClock) responds why = responds
+answers_of pages lane goes wire (Err ByClock) (Err NoMemory) responds why = absurd (cc)
+answers_of pages lane goes wire (Err NoMemory) (Err ByClock) responds why = absurd (cc)
+answers_of pages lane goes wire (Err NoMemory) (Err NoMemory) responds why = responds
 
 pub text_otherwise : (responded : Result Response Unanswered) (result : Result (List ℕ) Unanswered) → IsTextOf responded result → responded ≢ Err ByClock → result ≢ Err ByClock
 text_otherwise (Ok r) (Ok text) whole other = λ is. absurd (cc)

@@ -36,12 +36,12 @@ use Rattle.service.specs.declared.misses.MissOf.TheVariants as of
 use Rattle.turn_lock.specs.Elements.{elements_of}
 
 -- a link that was ended tells what it told before
-pub served_ended : {L : Type 0} (link : L → LinkSeen) (opening : State) (clock : ClockSeen) (lane : ℕ) (before seen : List Event) (came mid went : L) (how : Served) → link went ≡ link mid
-    → IsServedInTurns link opening clock lane before seen came mid how → IsServedInTurns link opening clock lane before seen came went how
-served_ended link opening clock lane before seen came mid went how same is = record {
-  answered = subst (λ (l : LinkSeen). Wrote (link came).stream l.stream (IsConnection (in_lane lane) (GoesInTurns opening clock.dial lane before seen) (HasFailed (link came).health l.health) (unread (link came).stream) (unread l.stream) how)) (sym same) is.answered;
+pub served_ended : (pages : Bool) {L : Type 0} (link : L → LinkSeen) (opening : State) (clock : ClockSeen) (lane : ℕ) (before seen : List Event) (came mid went : L) (how : Served) → link went ≡ link mid
+    → IsServedInTurns pages link opening clock lane before seen came mid how → IsServedInTurns pages link opening clock lane before seen came went how
+served_ended pages link opening clock lane before seen came mid went how same is = record {
+  answered = subst (λ (l : LinkSeen). Wrote (link came).stream l.stream (IsConnection (in_lane pages lane) (GoesInTurns pages opening clock.dial lane before seen) (HasFailed (link came).health l.health) (unread (link came).stream) (unread l.stream) how)) (sym same) is.answered;
   crossed =
-      subst (λ (l : LinkSeen). Crosses (link came).crossed l.crossed (IsConnectionBy (in_lane lane) (GoesInTurns opening clock.dial lane before seen) (HasFailed (link came).health l.health) how))
+      subst (λ (l : LinkSeen). Crosses (link came).crossed l.crossed (IsConnectionBy (in_lane pages lane) (GoesInTurns pages opening clock.dial lane before seen) (HasFailed (link came).health l.health) how))
       (sym same) is.crossed;
   goes_on = subst (λ (l : LinkSeen). LinkGoesOn (link came) l) (sym same) is.goes_on;
   steady = is.steady;
@@ -168,19 +168,19 @@ last_is k link more last left rest served.ClockFault piece clock memory ends = a
 last_is k link more last left rest served.OutOfMemory piece clock memory ends = absurd (memory refl)
 
 abbrev IsIn : {L : Type 0} → (ℕ → List Event) → (L → LinkSeen) → State → ClockSeen → ℕ → List Event → Visit L → Type 0
-IsIn looks link opening clock lane list v = IsInTurns lane_of (IsServedInTurns link opening clock) (ComesAfter looks) (GoesBefore looks) lane list v
+IsIn looks link opening clock lane list v = IsInTurns lane_of (IsServedInTurns false link opening clock) (ComesAfter looks) (GoesBefore looks) lane list v
 
 abbrev AreIn : {L : Type 0} → (ℕ → List Event) → (L → LinkSeen) → State → ClockSeen → ℕ → List Event → List (Visit L) → Type 0
-AreIn looks link opening clock lane list vs = AreInTurns lane_of (IsServedInTurns link opening clock) (ComesAfter looks) (GoesBefore looks) lane list vs
+AreIn looks link opening clock lane list vs = AreInTurns lane_of (IsServedInTurns false link opening clock) (ComesAfter looks) (GoesBefore looks) lane list vs
 
 -- one that ended by a fault of the clock left its miss in the one list
 visit_missed : {L : Type 0} (looks : ℕ → List Event) (link : L → LinkSeen) (opening : State) (clock : ClockSeen) (lane : ℕ) (list : List Event) (v : Visit L) → IsIn looks link opening clock lane list v → v.served ≡ served.ClockFault
     → list_any is_clock_miss list ≡ true
 visit_missed looks link opening clock lane list v is how =
     let one = is.in_turns.answered in
-    let by : IsConnection (in_lane lane) (GoesInTurns opening clock.dial lane is.before is.seen) (HasFailed (link v.came).health (link v.went).health) (unread (link v.came).stream) (unread (link v.went).stream) served.ClockFault one.0 =
-    subst (λ (h : Served). IsConnection (in_lane lane) (GoesInTurns opening clock.dial lane is.before is.seen) (HasFailed (link v.came).health (link v.went).health) (unread (link v.came).stream) (unread (link v.went).stream) h one.0) how one.2 in
-    let goes : GoesInTurns opening clock.dial lane is.before is.seen (by.xs ++ by.more) ClockFailed = subst (λ (last : Last). GoesInTurns opening clock.dial lane is.before is.seen (by.xs ++ by.more) last) by.ends.1 by.goes_on in
+    let by : IsConnection (in_lane false lane) (GoesInTurns false opening clock.dial lane is.before is.seen) (HasFailed (link v.came).health (link v.went).health) (unread (link v.came).stream) (unread (link v.went).stream) served.ClockFault one.0 =
+    subst (λ (h : Served). IsConnection (in_lane false lane) (GoesInTurns false opening clock.dial lane is.before is.seen) (HasFailed (link v.came).health (link v.went).health) (unread (link v.came).stream) (unread (link v.went).stream) h one.0) how one.2 in
+    let goes : GoesInTurns false opening clock.dial lane is.before is.seen (by.xs ++ by.more) ClockFailed = subst (λ (last : Last). GoesInTurns false opening clock.dial lane is.before is.seen (by.xs ++ by.more) last) by.ends.1 by.goes_on in
     any_among is_clock_miss (λ e. lane_of e == lane) list
     (ap (list_any is_clock_miss) is.own
     ∙ (run_adds opening clock.dial lane is.before is.seen _ ClockFailed is.fresh goes.turns ∙ failed_adds clock.dial lane goes.turns.left goes.turns.is_left))
@@ -190,8 +190,8 @@ visit_well : {L : Type 0} (looks : ℕ → List Event) (link : L → LinkSeen) (
     → list_any is_clock_miss (elements_of lane_of lane list) ≡ false
 visit_well looks link opening clock lane list v is well =
     let one = is.in_turns.answered.2 in
-    let goes : GoesInTurns opening clock.dial lane is.before is.seen (one.xs ++ one.more) Answered =
-    subst (λ (last : Last). GoesInTurns opening clock.dial lane is.before is.seen (one.xs ++ one.more) last) (last_is (in_lane lane) _ one.more one.last one.left _ v.served one.piece well.1 well.0.1 one.ends) one.goes_on in
+    let goes : GoesInTurns false opening clock.dial lane is.before is.seen (one.xs ++ one.more) Answered =
+    subst (λ (last : Last). GoesInTurns false opening clock.dial lane is.before is.seen (one.xs ++ one.more) last) (last_is (in_lane false lane) _ one.more one.last one.left _ v.served one.piece well.1 well.0.1 one.ends) one.goes_on in
     ap (list_any is_clock_miss) is.own
     ∙ (run_adds opening clock.dial lane is.before is.seen _ Answered is.fresh goes.turns ∙ answered_adds clock.dial lane goes.turns.left goes.turns.is_left)
 
@@ -241,7 +241,7 @@ visits_well looks link opening clock lane list (v ∷ vs) are well k low high =
 
 -- where all were served well there is no miss of the clock
 served_well : {L : Type 0} (link : L → LinkSeen) (opening : State) (clock : ClockSeen) (door : Over (DoorSeen L)) (list : List Event) (port most : ℕ) (end : ServeEnd)
-    → (is : HasServed lane_of (IsServedInTurns link opening clock) door list port most end) → AllByRecursion IsWell is.visits → list_any is_clock_miss list ≡ false
+    → (is : HasServed lane_of (IsServedInTurns false link opening clock) door list port most end) → AllByRecursion IsWell is.visits → list_any is_clock_miss list ≡ false
 served_well link opening clock door list port most end is well = none_of_any list (λ n. by n (nat_lt n 1) refl (nat_lt (length is.visits) n) refl)
   where
     by : (n : ℕ) (a : Bool) → nat_lt n 1 ≡ a → (b : Bool) → nat_lt (length is.visits) n ≡ b → list_any is_clock_miss (elements_of lane_of n list) ≡ false
@@ -276,7 +276,7 @@ list_from clock desk list less under is = record {
 }
 
 serving_is : {L : Type 0} (link : L → LinkSeen) (door : Over (DoorSeen L)) (desk : DeskSeen) (clock : ClockSeen) (s : SharedSeen) (port most : ℕ) (end : ServeEnd) → desk.state ≡ desk.opening
-    → IsSharedSince desk clock s → HasServed lane_of (IsServedInTurns link desk.opening clock) door s.events port most end
+    → IsSharedSince desk clock s → HasServed lane_of (IsServedInTurns false link desk.opening clock) door s.events port most end
     → IsServing link door (record { before = clock; after = s.clock }) (record { before = at_present desk; after = at_present s.desk }) port most end
 serving_is {L} link door desk clock s port most end opened since served =
     let rose = RoseOrFull door.before.health.faults door.after.health.faults in
@@ -284,7 +284,7 @@ serving_is {L} link door desk clock s port most end opened since served =
     let same = any_misses s.events in
     record {
       list = s.events;
-      served = subst (λ (o : State). HasServed lane_of (IsServedInTurns link o clock) door s.events port most end) (sym opened) served;
+      served = subst (λ (o : State). HasServed lane_of (IsServedInTurns false link o clock) door s.events port most end) (sym opened) served;
       is = list_opened desk clock s opened since;
       well = λ is.
           let well : (length vs ≡ most) × AllByRecursion IsWell vs = subst (λ (e : ServeEnd). EndsServing rose most vs e) is served.ends in
@@ -299,7 +299,7 @@ serving_is {L} link door desk clock s port most end opened since served =
 
 -- of a desk and a clock as they were handed in, by the names that all turns have for them
 pub serving_so : {L : Type 0} (link : L → LinkSeen) (door : Over (DoorSeen L)) (desk d : DeskSeen) (clock k : ClockSeen) (s : SharedSeen) (port most : ℕ) (end : ServeEnd) → d ≡ desk → k ≡ clock
-    → d.state ≡ d.opening → IsSharedSince desk clock s → HasServed lane_of (IsServedInTurns link desk.opening clock) door s.events port most end
+    → d.state ≡ d.opening → IsSharedSince desk clock s → HasServed lane_of (IsServedInTurns false link desk.opening clock) door s.events port most end
     → IsServing link door (record { before = k; after = s.clock }) (record { before = at_present d; after = at_present s.desk }) port most end
 serving_so {L} link door desk d clock k s port most end one two opened since served =
     let opens : desk.state ≡ desk.opening = subst (λ (x : DeskSeen). x.state ≡ x.opening) one opened in

@@ -1,5 +1,6 @@
 -- A turn leaves a shared desk one that goes on from how it was opened.
 use Rattle.std.proofs.Common.{◌≡◌, ◌≢◌, ⊎_elim, inl, inr, ℕ, ◌+◌, ◌≤◌, false, List, [], ◌∷◌, ◌++◌, take, drop, length, Option, None, Some, Result, Ok, Err, refl, sym, ap, ◌∙◌, subst, arith, append_assoc, append-nil, length-append}
+use Rattle.std.proofs.Math.Seq.{take-length}
 use Rattle.std.proofs.lemmas.List.{map-append}
 use Rattle.std.specs.Prelude.{option_to_list}
 use Rattle.std.specs.List.{AllByRecursion}
@@ -29,7 +30,10 @@ use Rattle.turn_lock.specs.Elements.{Continues, EachBears, elements_of}
 use Rattle.turn_lock.proofs.ElementLaws.{elements_of-append, prefix_trans}
 use Rattle.service.specs.Events.{AreStored, FollowAnswers, HasStored, LastAnswer, MayFollow, MayMiss, after_entries, answers_in, at_answer, ended, entered, entries_in, faults_in, faults_of, fresh_answer, lane_of, last_or, miss, missed, state_at, with_entry, without_clock}
 use Rattle.service.specs.Shared.{IsSharedSince, IsTickTimed, IsTimed, IsTold, SharedSeen}
-use Rattle.service.specs.Turns.{AnsweredOnce, AnswersInTurn, AsksNothing, ComesOnce, GoesInTurn, GoesWithout, HasNoMoment, MissedOnce, MissesClock, TicksAtMost, ToldAtMost, added_at, added_by, entries_since, missed_with, said_in, unkept_in}
+use Rattle.service.specs.Looks.{LooksOnce}
+use Rattle.service.specs.Pages.{nobodys_call}
+use Rattle.service.specs.declared.gauges.Gauges.{Gauges}
+use Rattle.service.specs.Turns.{AnsweredOnce, AnswersInTurn, AsksNothing, ComesOnce, GoesInTurn, GoesWithout, HasNoMoment, MissedOnce, MissesClock, TicksAtMost, ToldAtMost, UnansweredOnce, added_at, added_by, entries_since, missed_with, said_in, unkept_in}
 use Rattle.connections.specs.declared.answers.Unanswered.{Unanswered}
 use Rattle.connections.specs.declared.answers.Unanswered.TheVariants.{ClockFault, OutOfMemory}
 use Rattle.service.specs.declared.events.Event.{Event}
@@ -412,11 +416,11 @@ abbrev IsFrom : ℕ → List Event → List Event → ℕ → Call → Said → 
 IsFrom lane before list place call says at choice s =
     (says ≡ (answer_with choice lane s at call).outcome.said)
     × (take (length (added_by lane at s (answer_with choice lane s at call))) (drop place list) ≡ added_by lane at s (answer_with choice lane s at call))
-    × (place + length (added_by lane at s (answer_with choice lane s at call)) ≤ length list)
+    × (place + length (added_by lane at s (answer_with choice lane s at call)) ≡ length list)
     × (elements_of lane_of lane list ≡ elements_of lane_of lane before ++ added_by lane at s (answer_with choice lane s at call))
 
 seam_from : (lane : ℕ) (before list added : List Event) → list ≡ before ++ added → EachBears lane_of lane added
-    → (take (length added) (drop (length before) list) ≡ added) × (length before + length added ≤ length list)
+    → (take (length added) (drop (length before) list) ≡ added) × (length before + length added ≡ length list)
     × (elements_of lane_of lane list ≡ elements_of lane_of lane before ++ added)
 seam_from lane before list added is each = (
   ap (λ l. take (length added) (drop (length before) l)) is
@@ -438,7 +442,7 @@ answered_once desk clock lane call old new says since a =
     (λ k. block lane a.at (same k) (unkept_in (a.its_outcome k))) in
     let seam = seam_from lane old.events new.events more added.events added.lanes in
     let from : IsFrom lane old.events new.events (length old.events) call says a.at a.choice old.desk.state =
-    let rest = subst (λ l. (take (length l) (drop (length old.events) new.events) ≡ l) × (length old.events + length l ≤ length new.events)
+    let rest = subst (λ l. (take (length l) (drop (length old.events) new.events) ≡ l) × (length old.events + length l ≡ length new.events)
     × (elements_of lane_of lane new.events ≡ elements_of lane_of lane old.events ++ l)) is seam in (a.its_outcome, rest.0, rest.1, rest.2) in
     let here : state_at desk.opening new.events (length old.events) ≡ old.desk.state =
     ap (λ l. state_at desk.opening l (length old.events)) added.events ∙ state_is desk clock old more since in
@@ -450,9 +454,10 @@ answered_once desk clock lane call old new says since a =
         told = told_by clock.dial old.clock.dial a.at since.clock_on.dial a.stood;
         reply = there.0;
         stands = there.1;
-        ends = there.2;
+        ends = (let whole = there.2 in omega (arith, whole));
       },
       there.3,
+      there.2,
     )
 
 missed_once : (lane : ℕ) (old new : SharedSeen) → new.desk ≡ old.desk → MissesClock lane old.clock new.clock old.events new.events → MissedOnce lane old.events new.events
@@ -491,17 +496,43 @@ prefix_length : {A : Type 0} (xs ys : List A) → IsPrefix xs ys → length xs �
 prefix_length xs ys p = omega (arith, ap length (sym p.1), length-append xs p.0)
 
 -- what a pass had seen before lies before what its turn took, with all that its lane had added
-pub comes_for_pass : (opening : State) (clock : Option Dial) (lane : ℕ) (before taken list : List Event) (call : Call) (r : Result Answered Unanswered) → IsPrefix before taken
-    → elements_of lane_of lane taken ≡ elements_of lane_of lane before → ComesOnce opening clock lane taken list call r → ComesOnce opening clock lane before list call r
-comes_for_pass opening clock lane before taken list call (Ok a) front own comes =
+answered_for_pass : (opening : State) (clock : Option Dial) (lane : ℕ) (before taken list : List Event) (call : Call) (says : Said) → IsPrefix before taken
+    → elements_of lane_of lane taken ≡ elements_of lane_of lane before → AnsweredOnce opening clock lane taken list call says → AnsweredOnce opening clock lane before list call says
+answered_for_pass opening clock lane before taken list call says front own comes =
     let t = comes.1 in
     let less = prefix_length before taken front in
     let from = t.from in (
       comes.0,
       record { from = omega (arith, less, from); moment = t.moment; told = t.told; reply = t.reply; stands = t.stands; ends = t.ends },
       comes.2 ∙ ap (λ l. l ++ added_at opening lane list call comes.0) own,
+      comes.3,
     )
-comes_for_pass opening clock lane before taken list call (Err ClockFault) front own comes =
+
+unanswered_for_pass : (clock : Option Dial) (lane : ℕ) (before taken list : List Event) (why : Unanswered) → IsPrefix before taken → elements_of lane_of lane taken ≡ elements_of lane_of lane before
+    → UnansweredOnce clock lane taken list why → UnansweredOnce clock lane before list why
+unanswered_for_pass clock lane before taken list ClockFault front own comes =
     (comes.0, comes.1, prefix_trans before taken comes.0 front comes.2, comes.3, comes.4 ∙ ap (λ l. l ++ missed (miss lane of.Clock comes.1 ∷ [])) own)
-comes_for_pass opening clock lane before taken list call (Err OutOfMemory) front own comes =
+unanswered_for_pass clock lane before taken list OutOfMemory front own comes =
     (comes.0, comes.1, comes.2, prefix_trans before taken comes.0 front comes.3, comes.4, comes.5 ∙ ap (λ l. l ++ comes.1) own)
+
+pub comes_for_pass : (opening : State) (clock : Option Dial) (lane : ℕ) (before taken list : List Event) (call : Call) (r : Result Answered Unanswered) → IsPrefix before taken
+    → elements_of lane_of lane taken ≡ elements_of lane_of lane before → ComesOnce opening clock lane taken list call r → ComesOnce opening clock lane before list call r
+comes_for_pass opening clock lane before taken list call (Ok a) front own comes = answered_for_pass opening clock lane before taken list call (said_in a) front own comes
+comes_for_pass opening clock lane before taken list call (Err why) front own comes = unanswered_for_pass clock lane before taken list why front own comes
+
+-- the same of a look
+pub looks_for_pass : (opening : State) (clock : Option Dial) (lane : ℕ) (before taken list : List Event) (r : Result Gauges Unanswered) → IsPrefix before taken
+    → elements_of lane_of lane taken ≡ elements_of lane_of lane before → LooksOnce opening clock lane taken list r → LooksOnce opening clock lane before list r
+looks_for_pass opening clock lane before taken list (Ok g) front own looks = (
+  looks.0,
+  answered_for_pass opening clock lane before taken list nobodys_call looks.0 front own looks.1,
+  looks.2,
+)
+looks_for_pass opening clock lane before taken list (Err why) front own looks = unanswered_for_pass clock lane before taken list why front own looks
+
+-- ---- what the desk holds at the end of the list
+
+pub state_there : (desk : DeskSeen) (clock : ClockSeen) (s : SharedSeen) → IsSharedSince desk clock s → state_at desk.opening s.events (length s.events) ≡ s.desk.state
+state_there desk clock s since =
+    ap (λ l. after_entries desk.opening (entries_in l)) (take-length s.events)
+    ∙ (ap (after_entries desk.opening) since.list.entries ∙ after_entries-legal desk.opening s.desk.state.entries s.desk.state since.list.legal)

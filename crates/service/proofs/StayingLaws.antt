@@ -1,5 +1,5 @@
 -- What the type of the shared desk keeps, of all that workers did.
-use Rattle.std.proofs.Common.{◌≡◌, ℕ, ◌+◌, ◌≤◌, length, List, Option, None, Some, sym, subst, arith}
+use Rattle.std.proofs.Common.{◌≡◌, ℕ, ◌+◌, ◌≤◌, true, length, List, Option, None, Some, sym, subst, arith}
 use Rattle.connections.specs.Doors.{HasLinks}
 use Rattle.connections.specs.declared.doors.ServeEnd.{ServeEnd}
 use Rattle.connections.specs.declared.doors.ServeEnd.TheVariants as ends
@@ -20,16 +20,16 @@ use Rattle.workers.specs.Staying.{EndsStaying, HasStayed}
 use Rattle.workers.specs.declared.passages.Passage.{Passage}
 
 staying_is : {L : Type 0} (D : Type 0) (link : L → LinkSeen) (door : Over (DoorSeen L)) (desk : DeskSeen) (clock : ClockSeen) (s : SharedSeen) (port most : ℕ) (end : ServeEnd) → desk.state ≡ desk.opening → IsSharedSince desk clock s
-    → HasStayed D lane_of (IsServedInTurns link desk.opening clock) (HasTicked desk.opening clock.dial) door s.events port most end
+    → HasStayed D lane_of (IsServedInTurns true link desk.opening clock) (HasTicked desk.opening clock.dial) door s.events port most end
     → IsStaying D link door (record { before = clock; after = s.clock }) (record { before = at_present desk; after = at_present s.desk }) port most end
 staying_is D link door desk clock s port most end opened since stayed = record {
   list = s.events;
-  stayed = subst (λ (o : State). HasStayed D lane_of (IsServedInTurns link o clock) (HasTicked o clock.dial) door s.events port most end) (sym opened) stayed;
+  stayed = subst (λ (o : State). HasStayed D lane_of (IsServedInTurns true link o clock) (HasTicked o clock.dial) door s.events port most end) (sym opened) stayed;
   is = list_opened desk clock s opened since;
 }
 
 pub staying_so : {L : Type 0} (D : Type 0) (link : L → LinkSeen) (door : Over (DoorSeen L)) (desk d : DeskSeen) (clock k : ClockSeen) (s : SharedSeen) (port most : ℕ) (end : ServeEnd) → d ≡ desk → k ≡ clock → d.state ≡ d.opening
-    → IsSharedSince desk clock s → HasStayed D lane_of (IsServedInTurns link desk.opening clock) (HasTicked desk.opening clock.dial) door s.events port most end
+    → IsSharedSince desk clock s → HasStayed D lane_of (IsServedInTurns true link desk.opening clock) (HasTicked desk.opening clock.dial) door s.events port most end
     → IsStaying D link door (record { before = k; after = s.clock }) (record { before = at_present d; after = at_present s.desk }) port most end
 staying_so D link door desk d clock k s port most end one two opened since stayed =
     let opens : desk.state ≡ desk.opening = subst (λ (x : DeskSeen). x.state ≡ x.opening) one opened in

@@ -1,5 +1,5 @@
 -- A connection answered request by request over a desk that isn't shared.
-use Rattle.std.specs.Prelude.{◌≡◌, ℕ, List, [], ◌∷◌, map, Option}
+use Rattle.std.specs.Prelude.{◌≡◌, ℕ, false, List, [], ◌∷◌, map, Option}
 use Rattle.connections.specs.Connections.{Answered, ClockFailed, IsConnection, IsStep, Last, RanOut}
 use Rattle.connections.specs.Writing.{WroteTo}
 use Rattle.connections.specs.declared.serving.Served.{Served}
@@ -59,7 +59,7 @@ abbrev pub ComeTo : ℕ → Option Dial → Option Dial → Type 0 → State →
 ComeTo lane early late clock s t [] last = Leaves lane early late clock s t last
 ComeTo lane early late clock s t (x ∷ xs) last =
     (x.from ≡ s) × OnCall (requested_by x.wire) (IsClockMoment early x.turn.at)
-    × ComeTo lane (dial_after_one (requested_by x.wire) early) late clock (exchange lane x).state t xs last
+    × ComeTo lane (dial_after_one (requested_by x.wire) early) late clock (exchange false lane x).state t xs last
 
 -- The requests of a lane were answered one after another, under choices that the keeper's counts allow.
 pub record GoesAlone (lane : ℕ) (early late : ClockSeen) (before after : ℕ) (s t : State) (xs : List Exchange) (last : Last) : Type 0 where
@@ -75,9 +75,9 @@ GoesOver lane clock desk = GoesAlone lane clock.before clock.after desk.before.k
 abbrev pub ServesStep : ℕ → Over LinkSeen → Over ClockSeen → Over DeskAt → List ℕ → List ℕ → Option Served → Type 0
 ServesStep lane link clock desk kept left result =
     WroteTo link
-    (λ failed. IsStep (in_lane lane) (GoesOver lane clock desk) failed (unused kept (unread link.before.stream)) (unused left (unread link.after.stream)) (unread link.after.stream) result)
+    (λ failed. IsStep (in_lane false lane) (GoesOver lane clock desk) failed (unused kept (unread link.before.stream)) (unused left (unread link.after.stream)) (unread link.after.stream) result)
 
 -- a whole connection
 abbrev pub ServesLink : ℕ → Over LinkSeen → Over ClockSeen → Over DeskAt → Served → Type 0
 ServesLink lane link clock desk result =
-    WroteTo link (λ failed. IsConnection (in_lane lane) (GoesOver lane clock desk) failed (unread link.before.stream) (unread link.after.stream) result)
+    WroteTo link (λ failed. IsConnection (in_lane false lane) (GoesOver lane clock desk) failed (unread link.before.stream) (unread link.after.stream) result)

@@ -75,6 +75,25 @@ abbrev pub last_or : ℕ → List ℕ → ℕ
 last_or n [] = n
 last_or n (m ∷ ms) = last_or m ms
 
+-- ---- whether rows can be kept
+
+abbrev pub keeps_after : Bool → MissOf → Bool
+keeps_after kept of.Keeper = false
+keeps_after kept of.Clock = kept
+
+abbrev pub keeps_with : Bool → Event → Bool
+keeps_with kept (Told lane at) = kept
+keeps_with kept (Entered e) = true
+keeps_with kept (Missed m) = keeps_after kept m.source
+
+abbrev pub keeps_from : Bool → List Event → Bool
+keeps_from kept [] = kept
+keeps_from kept (e ∷ es) = keeps_from (keeps_with kept e) es
+
+-- Rows could be kept when they were to change last: no miss of the keeper comes after the last entry.
+abbrev pub keeps : List Event → Bool
+keeps events = keeps_from true events
+
 -- ---- the clock's answers
 
 abbrev answer_at_miss : MissOf → List (Option ℕ)

@@ -6,6 +6,8 @@ use Rattle.desk_http.specs.declared.routes.Routed.TheVariants.{Post, Board, Aler
 use Rattle.asks.specs.Forms.{CallHasForms, IsId, IsShort}
 use Rattle.service.specs.declared.requested.Requested.{Requested}
 use Rattle.service.specs.declared.requested.Requested.TheVariants as requested
+use Rattle.service.specs.declared.wanted.Wanted.{Wanted}
+use Rattle.service.specs.declared.wanted.Wanted.TheVariants as wanted
 
 -- if the request is a call, each of its fields has its form
 abbrev pub RequestedHasForms : Requested → Type 0
@@ -13,6 +15,10 @@ RequestedHasForms (requested.Call call) = CallHasForms call
 RequestedHasForms (requested.Bad fault) = Unit {0}
 RequestedHasForms requested.NoRoute = Unit {0}
 RequestedHasForms requested.WrongMethod = Unit {0}
+
+abbrev pub WantedHasForms : Wanted → Type 0
+WantedHasForms (wanted.Asked asked) = RequestedHasForms asked
+WantedHasForms (wanted.Page page) = Unit {0}
 
 -- the number, station or tail of the route has its form
 abbrev pub RouteHasForms : Routed → Type 0

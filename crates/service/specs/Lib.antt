@@ -13,3 +13,6 @@ pub mod Turns
 pub mod Runs
 pub mod Minutes
 pub mod Staying
+pub mod Pages
+pub mod Looks
+pub mod Wanted

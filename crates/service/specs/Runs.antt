@@ -1,12 +1,12 @@
 -- The turns of a lane's calls in the list of a shared desk.
-use Rattle.std.specs.Prelude.{◌≡◌, ℕ, ◌+◌, ◌≤◌, List, [], ◌∷◌, ◌++◌, length, Option}
+use Rattle.std.specs.Prelude.{◌≡◌, ℕ, ◌≤◌, List, [], ◌∷◌, ◌++◌, length, Option}
 use Rattle.asks.specs.declared.call.Call.{Call}
 use Rattle.connections.specs.Connections.{Answered, ClockFailed, Last, RanOut}
 use Rattle.desk_net.specs.Clocks.{Dial}
 use Rattle.desk_state.specs.State.{State}
 use Rattle.desk_state.specs.declared.lanes.Said.{Said}
 use Rattle.service.specs.Events.{lane_of, miss, missed}
-use Rattle.service.specs.Turns.{IsTurn, MayHaveTold, Turn, added_at}
+use Rattle.service.specs.Turns.{IsTurn, MayHaveTold, Turn, added_at, turn_end}
 use Rattle.service.specs.declared.events.Event.{Event}
 use Rattle.service.specs.declared.misses.MissOf.TheVariants as of
 use Rattle.turn_lock.specs.Elements.{elements_of}
@@ -27,7 +27,7 @@ all_added opening lane list (r ∷ rs) = added_for opening lane list r ++ all_ad
 
 -- the place at which the turn ends
 abbrev pub end_of : State → ℕ → List Event → Reply → ℕ
-end_of opening lane list r = r.turn.place + length (added_for opening lane list r)
+end_of opening lane list r = turn_end opening lane list r.call r.turn
 
 -- Each reply has its turn in the list, in order and without overlap. All turns lie between two places.
 abbrev pub ArePlaced : State → Option Dial → ℕ → List Event → ℕ → ℕ → List Reply → Type 0

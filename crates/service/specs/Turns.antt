@@ -151,11 +151,17 @@ pub record IsTurn (opening : State) (dial : Option Dial) (lane : ℕ) (list : Li
   pub stands : take (length (added_at opening lane list call t)) (drop t.place list) ≡ added_at opening lane list call t
   pub ends : t.place + length (added_at opening lane list call t) ≤ top
 
--- The call was answered in one turn, whose place is after everything seen before. The lane added nothing else.
+-- the place at which a call's turn ends
+abbrev pub turn_end : State → ℕ → List Event → Call → Turn → ℕ
+turn_end opening lane list call t = t.place + length (added_at opening lane list call t)
+
+-- The call was answered in one turn, whose place is after everything seen before, and which ends the list. The lane
+-- added nothing else.
 abbrev pub AnsweredOnce : State → Option Dial → ℕ → List Event → List Event → Call → Said → Type 0
 AnsweredOnce opening dial lane before list call says =
     (t : Turn) × IsTurn opening dial lane list (length before) (length list) call says t
     × (elements_of lane_of lane list ≡ elements_of lane_of lane before ++ added_at opening lane list call t)
+    × (turn_end opening lane list call t ≡ length list)
 
 -- The clock failed. Its miss is the last event of the list, and the lane added nothing else.
 abbrev pub MissedOnce : ℕ → List Event → List Event → Type 0

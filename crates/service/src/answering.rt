@@ -13,7 +13,7 @@ ghost use Rattle.connections.specs.declared.answers.Unanswered.TheVariants.{Cloc
 ghost use Rattle.service.specs.declared.events.Event.TheVariants.{Told};
 ghost use Rattle.service.specs.declared.misses.MissOf.TheVariants as of;
 
-use crate::events::Events;
+use crate::event_list::Events;
 use crate::misses::{Miss, MissOf};
 use alerts::Bell;
 use asks::{Call, Refusal, Reply};

@@ -10,6 +10,7 @@ ghost use Rattle.service.specs.Doors.{IsServing};
 use crate::opened::Opened;
 use crate::rounds::OnDesk;
 use crate::shared::Shared;
+use crate::surface::Plain;
 use alerts::Bell;
 use connections::{Finished, ServeEnd, serve_all};
 use desk::{Desk, Gate};
@@ -63,7 +64,10 @@ where
         → result.end ≢ ends.DoorFault }
 {
     let shared = Shared::<K, B, C, A>::new(desk, clock);
-    let way = OnDesk { gate };
+    let way = OnDesk {
+        gate,
+        surface: &Plain,
+    };
     let Finished { value, door, end } = serve_all(rt, alloc, shared, &way, door, port, connections);
     let (desk, clock) = value.into_parts();
     Left {

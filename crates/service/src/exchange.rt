@@ -1,4 +1,4 @@
-ghost use Rattle.std.specs.Prelude.{◌≡◌, ◌≢◌, Err, IfOk};
+ghost use Rattle.std.specs.Prelude.{◌≡◌, ◌≢◌, false, Err, IfOk};
 ghost use Rattle.asks.specs.Forms.{CallHasForms};
 ghost use Rattle.connections.specs.Connections.{Answers};
 ghost use Rattle.connections.specs.declared.answers.Unanswered.TheVariants.{ClockFault as ByClock};
@@ -39,7 +39,7 @@ fn respond_to_call<K: Keeper, B: Bell, C: Clock, L: Ledger>(
 ) -> Result<Response, Unanswered>
     requires asked { spec.requested_by wire.now ≡ Requested.Call call.now }
     requires forms { CallHasForms call.now }
-    ensures responds { Responds lane
+    ensures responds { Responds false lane
         (GoesOver lane (over C.seen clock.old clock.new) (over (desk_at K.seen) desk.old desk.new)) wire.now result }
     ensures code { IfOk result (λ r. IsStatusCode r.status) }
     ensures desk { DeskGoesOn (desk_seen K.seen B.seen desk.old) (desk_seen K.seen B.seen desk.new) }
@@ -68,7 +68,7 @@ fn respond<K: Keeper, B: Bell, C: Clock, L: Ledger>(
 ) -> Result<Response, Unanswered>
     requires asked { requested.now ≡ spec.requested_by wire.now }
     requires forms { RequestedHasForms requested.now }
-    ensures responds { Responds lane
+    ensures responds { Responds false lane
         (GoesOver lane (over C.seen clock.old clock.new) (over (desk_at K.seen) desk.old desk.new)) wire.now result }
     ensures code { IfOk result (λ r. IsStatusCode r.status) }
     ensures desk { DeskGoesOn (desk_seen K.seen B.seen desk.old) (desk_seen K.seen B.seen desk.new) }
@@ -95,7 +95,7 @@ pub fn exchange<K: Keeper, B: Bell, C: Clock, L: Ledger>(
     wire: &Wire,
     steps: &mut Steps<L>,
 ) -> Result<Text, Unanswered>
-    ensures answers { Answers (in_lane lane)
+    ensures answers { Answers (in_lane false lane)
         (GoesOver lane (over C.seen clock.old clock.new) (over (desk_at K.seen) desk.old desk.new)) wire.now result }
     ensures desk { DeskGoesOn (desk_seen K.seen B.seen desk.old) (desk_seen K.seen B.seen desk.new) }
     ensures clock { ClockGoesOn (C.seen clock.old) (C.seen clock.new) }

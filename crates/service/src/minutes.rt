@@ -1,16 +1,14 @@
 ghost use Rattle.std.specs.Prelude.{◌≡◌, ◌<◌, IfOk};
 ghost use mathlib.Core.List.{IsPrefix};
-ghost use Rattle.service.specs.Minutes as spec;
 ghost use Rattle.service.specs.Minutes.{HasTicked};
 ghost use Rattle.turn_lock.specs.Passes.{lock_id, pass_lock, pass_number, pass_numbers, pass_seen};
 
 use crate::events::Event;
 use crate::opened::Opened;
+use crate::pages::nobodys_call;
 use crate::shared::Shared;
 use crate::turn_answers::answer_in_turn;
 use alerts::Bell;
-use asks::{Ask, Call};
-use desk_io::Text;
 use desk_net::Clock;
 use keeper::Keeper;
 use rules::Steps;
@@ -33,18 +31,6 @@ const SECONDS: u64 = 1;
 #[derive(Drop)]
 pub struct Minutes;
 
-// The call by which a minute ticks. Its actor and its key are empty.
-fn minute_call(alloc: Global) -> Call
-    ensures { result ≡ spec.minute_call }
-{
-    Call {
-        actor: Text::from_vec(Vec::new(alloc)),
-        key: Text::from_vec(Vec::new(alloc)),
-        number: 0,
-        ask: Ask::ViewBoard,
-    }
-}
-
 // Makes one tick after another.
 fn tick_counted<R: Wait, K: Keeper, B: Bell, C: Clock, A: Opened, L: Ledger>(
     rt: &R,
@@ -64,7 +50,7 @@ fn tick_counted<R: Wait, K: Keeper, B: Bell, C: Clock, A: Opened, L: Ledger>(
     ensures seen { IsPrefix (pass_seen pass) (pass_seen result) }
     ensures ticked { HasTicked A.desk.opening A.clock.dial lane (pass_seen pass) (pass_seen result) }
 {
-    let call = minute_call(alloc);
+    let call = nobodys_call(alloc);
     let mut steps = Steps::<L>::new(blank);
     for _ in rt.forever() {
         if closing.is_closed() {

@@ -1,17 +1,23 @@
-ghost use Rattle.std.specs.Prelude.{◌≡◌, ◌≢◌, [], Err, IfOk};
+ghost use Rattle.std.specs.Prelude.{◌≡◌, ◌≢◌, [], Err, IfOk, length};
 ghost use Rattle.asks.specs.Forms.{CallHasForms};
 ghost use Rattle.desk.specs.Seen.{desk_seen};
 ghost use Rattle.desk.specs.Shown.{IsShown};
 ghost use Rattle.desk_io.specs.Health.{IsSound, IsStill};
-ghost use Rattle.service.specs.Events.{lane_of};
+ghost use Rattle.desk_time.specs.Limits.{IsMoment};
+ghost use Rattle.service.specs.Events.{keeps, lane_of, state_at};
+ghost use Rattle.service.specs.Looks.{LooksOnce};
+ghost use Rattle.service.specs.Pages.{gauges_of};
 ghost use Rattle.service.specs.Shared.{IsSharedSince, seen_by};
 ghost use Rattle.service.specs.Turns.{ComesOnce, GoesInTurn};
 ghost use Rattle.connections.specs.declared.answers.Unanswered.TheVariants.{ClockFault as ByClock};
 ghost use Rattle.turn_lock.specs.Elements.{Continues};
 
 use crate::answering::answer_over;
-use crate::events::{Event, Events};
+use crate::event_list::Events;
+use crate::events::Event;
+use crate::gauges::{Gauges, gauges_of};
 use crate::opened::Opened;
+use crate::pages::nobodys_call;
 use alerts::Bell;
 use asks::Call;
 use connections::Unanswered;
@@ -120,6 +126,35 @@ impl<K: Keeper, B: Bell, C: Clock, A: Opened> Shared<K, B, C, A> {
         );
         let _ = self.desk.board.now();
         answered
+    }
+
+    /// Makes the call of nobody at the clock's moment, as each minute does, and measures the desk after it.
+    pub fn look<L: Ledger>(
+        &mut self,
+        alloc: Global,
+        lane: u32,
+        steps: &mut Steps<L>,
+    ) -> Result<Gauges, Unanswered>
+        ensures comes { LooksOnce A.desk.opening A.clock.dial lane self.old.events self.new.events result }
+        ensures list { Continues lane_of lane self.old.events self.new.events }
+        ensures since { IsSharedSince A.desk A.clock (seen_by K.seen B.seen C.seen self.new) }
+        ensures moment { IfOk result (λ g. IsMoment g.at) }
+        ensures still { result ≢ Err ByClock
+            → IsStill (C.seen self.old.clock).health (C.seen self.new.clock).health }
+        // A sound clock never leaves the call without an answer.
+        ensures steady { IsSound A.clock.health → result ≢ Err ByClock }
+    {
+        let call = nobodys_call(alloc);
+        let _ = self.answer(alloc, lane, &call, steps)?;
+        Ok(self.gauges())
+    }
+
+    fn gauges(&self) -> Gauges
+        ensures gauges { result ≡ gauges_of (state_at A.desk.opening self.now.events (length self.now.events))
+            (keeps self.now.events) }
+        ensures moment { IsMoment result.at }
+    {
+        gauges_of(&self.desk.board, self.events.keeps())
     }
 }
 

@@ -4,11 +4,13 @@ ghost use Rattle.desk_io.specs.Over.{over};
 ghost use Rattle.desk_net.specs.Seen.{ClockGoesOn};
 ghost use Rattle.service.specs.Staying.{IsStaying};
 
+use crate::counted::Counted;
 use crate::doors::Left;
 use crate::minutes::Minutes;
 use crate::opened::Opened;
 use crate::rounds::OnDesk;
 use crate::shared::Shared;
+use crate::surface::Program;
 use alerts::Bell;
 use connections::Finished;
 use desk::{Desk, Gate};
@@ -27,7 +29,7 @@ fn stay_from<
     B: Bell + Send,
     C: Clock + Send,
     D: Door + Drop + Send,
-    G: Gate + Sync,
+    G: Gate + Program + Sync,
     A: Opened + Send,
 >(
     rt: &R,
@@ -54,7 +56,11 @@ where
     ensures door { (D.seen door).health.faults ≤ (D.seen result.door).health.faults }
 {
     let shared = Shared::<K, B, C, A>::new(desk, clock);
-    let way = OnDesk { gate };
+    let counted = Counted::new(gate);
+    let way = OnDesk {
+        gate,
+        surface: &counted,
+    };
     let Finished { value, door, end } = stay(
         rt, alloc, shared, &way, &Minutes, door, port, workers,
     );
@@ -72,6 +78,9 @@ where
 /// of all its connections. Each of their calls takes a turn of its own. The gate is called around each connection.
 /// Every link is given back. A fault of a link ends that connection only. A fault of the door ends the workers.
 ///
+/// Beside the answers of the desk there are two pages, `/health` and `/metrics`, which need no key. They show the name
+/// of the program, what the desk holds, and how many requests got which response.
+///
 /// Beside them the desk ticks as soon as a minute of its clock begins, in the lane after theirs.
 ///
 /// Everything that was done is in one list, of the desk's history, the clock's answers and the misses. The list
@@ -82,7 +91,7 @@ pub fn stay_at_door<
     B: Bell + Send,
     C: Clock + Send,
     D: Door + Drop + Send,
-    G: Gate + Sync,
+    G: Gate + Program + Sync,
 >(
     rt: &R,
     alloc: Global,

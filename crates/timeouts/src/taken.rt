@@ -26,8 +26,13 @@ impl Taken {
         self.count.fetch_sub(1, Ordering::SeqCst);
     }
 
+    /// Returns how many workers have a connection.
+    pub fn count(&self) -> u64 {
+        self.count.load(Ordering::SeqCst)
+    }
+
     /// Returns whether every worker has a connection, so that none waits for the next one.
     pub fn are_all(&self) -> bool {
-        self.count.load(Ordering::SeqCst) >= self.workers
+        self.count() >= self.workers
     }
 }

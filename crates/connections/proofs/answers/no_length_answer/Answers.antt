@@ -1,8 +1,8 @@
 use Rattle.std.proofs.Common.{refl}
 use Rattle.std.specs.Fmt.{digits}
-use Rattle.desk_http.specs.Responses.{response}
+use Rattle.desk_http.specs.Responses.{typed_response}
 use Rattle.connections.proofs.answers.no_length_answer.Goals as goal
 
 pub returns : goal.returns
-unfolding response digits
+unfolding typed_response digits
 returns c = refl

@@ -1,3 +1,4 @@
+use Rattle.desk.proofs.AskedLaws.{keeper_later}
 use Rattle.desk.proofs.InPart.{on_err}
 use Rattle.desk.proofs.SeenLaws.{desk_on, desk_stays}
 use Rattle.scripts.proofs.PlannedHeld.{none_formed, stay_formed}
@@ -14,7 +15,7 @@ pub returns-in_err-outcome-clause-err : goal.returns-in_err-outcome-clause-err
 returns-in_err-outcome-clause-err g c =
     let is = c.in_err-outcome.ensures in
     let left = line_there c.args.lines.now c.loop-line.line-index c.line-item.result c.bytes.result.now c.in_ok-item.item c.loop-line-test.true c.line-item.is c.bytes.ensures c.in_ok-item.ensures.value in
-    on_err c.from_residual-in_err-outcome.result (told_at _ _ _ _ _ _ _ _ _ _ _ _ left c.loop-line.invariant.told is.on.keeper.health.later is.err)
+    on_err c.from_residual-in_err-outcome.result (told_at _ _ _ _ _ _ _ _ _ _ _ _ left c.loop-line.invariant.told (keeper_later _ _ is.on.keeper) is.err)
 
 pub returns-in_err-push_line-clause-err : goal.returns-in_err-push_line-clause-err
 returns-in_err-push_line-clause-err g c =

@@ -30,8 +30,8 @@ loop-preserved g c =
       numbers = is.numbers ∙ inv.numbers;
       seen = prefix_trans before middle list inv.seen is.seen;
       ticked = ticked_more opening dial c.args.lane before middle list c.answer_in_turn-next.result.0 inv.ticked is.seen
-          (subst (λ k. ComesOnce opening dial c.args.lane middle list k c.answer_in_turn-next.result.0) c.minute_call-call.ensures is.comes);
+          (subst (λ k. ComesOnce opening dial c.args.lane middle list k c.answer_in_turn-next.result.0) c.nobodys_call-call.ensures is.comes);
     }
 
 pub answer_in_turn-next-requires-clause-call : goal.answer_in_turn-next-requires-clause-call
-answer_in_turn-next-requires-clause-call g c = subst (λ k. CallHasForms k) (sym c.minute_call-call.ensures) minute_forms
+answer_in_turn-next-requires-clause-call g c = subst (λ k. CallHasForms k) (sym c.nobodys_call-call.ensures) minute_forms

@@ -1,4 +1,4 @@
-use Rattle.std.proofs.Common.{[], ◌∙◌, refl}
+use Rattle.std.proofs.Common.{false, [], ◌∙◌, refl}
 use Rattle.connections.proofs.Joins.{begins, written_end, written_on}
 use Rattle.connections.proofs.Lines.{gains_still}
 use Rattle.desk.proofs.SeenLaws.{desk_stays, desk_on}
@@ -12,7 +12,7 @@ use Rattle.service.proofs.Endings.{not_by_clock, not_by_link, unserved}
 use Rattle.service.proofs.serving.serve_link.Goals as goal
 
 pub returns-in_default-clause-serves : goal.returns-in_default-clause-serves
-returns-in_default-clause-serves g c = ([], gains_still _, unserved (in_lane c.args.lane) _ _ _ (goes_none _ _ _ _))
+returns-in_default-clause-serves g c = ([], gains_still _, unserved (in_lane false c.args.lane) _ _ _ (goes_none _ _ _ _))
 
 pub loop-init : goal.loop-init
 loop-init g c = record {
@@ -28,7 +28,7 @@ returns-in-Some-serve_next-clause-serves g c =
     let inv = c.loop.invariant in
     let is = c.in-Some-serve_next.ensures in
     let lane = c.args.lane in
-    written_end (in_lane lane) (GoesAlone lane (g.C.Clock.seen c.args.clock.now) (g.C.Clock.seen c.loop.clock) _ _ _ _) (GoesAlone lane (g.C.Clock.seen c.loop.clock) (g.C.Clock.seen c.serve_next.new.clock) _ _ _ _)
+    written_end (in_lane false lane) (GoesAlone lane (g.C.Clock.seen c.args.clock.now) (g.C.Clock.seen c.loop.clock) _ _ _ _) (GoesAlone lane (g.C.Clock.seen c.loop.clock) (g.C.Clock.seen c.serve_next.new.clock) _ _ _ _)
     (GoesAlone lane (g.C.Clock.seen c.args.clock.now) (g.C.Clock.seen c.serve_next.new.clock) _ _ _ _)
     (goes_on lane _ _ _ _ _ _ _ _ _ inv.clock) _ _ _ _ _ _ _ _ _ (failed_last _ _ (g.N.Link.seen c.serve_next.new.link).health inv.link) inv.served is.serves
 
@@ -50,14 +50,14 @@ returns-in-Some-serve_next-clause-steady_clock g c =
 
 pub returns-in-Some-serve_next-clause-steady_link : goal.returns-in-Some-serve_next-clause-steady_link
 returns-in-Some-serve_next-clause-steady_link g c =
-    let serves = returns-in-Some-serve_next-clause-serves g c in λ sound. not_by_link (in_lane c.args.lane) _ _ _ _ _ _ serves.2 (λ failed. failed.1 sound)
+    let serves = returns-in-Some-serve_next-clause-serves g c in λ sound. not_by_link (in_lane false c.args.lane) _ _ _ _ _ _ serves.2 (λ failed. failed.1 sound)
 
 pub loop-preserved : goal.loop-preserved
 loop-preserved g c =
     let inv = c.loop.invariant in
     let is = c.serve_next.ensures in
     let lane = c.args.lane in record {
-      served = written_on (in_lane lane) (GoesAlone lane (g.C.Clock.seen c.args.clock.now) (g.C.Clock.seen c.loop.clock) _ _ _ _) (GoesAlone lane (g.C.Clock.seen c.loop.clock) (g.C.Clock.seen c.serve_next.new.clock) _ _ _ _)
+      served = written_on (in_lane false lane) (GoesAlone lane (g.C.Clock.seen c.args.clock.now) (g.C.Clock.seen c.loop.clock) _ _ _ _) (GoesAlone lane (g.C.Clock.seen c.loop.clock) (g.C.Clock.seen c.serve_next.new.clock) _ _ _ _)
           (GoesAlone lane (g.C.Clock.seen c.args.clock.now) (g.C.Clock.seen c.serve_next.new.clock) _ _ _ _)
           (goes_on lane _ _ _ _ _ _ _ _ _ inv.clock) _ _ _ _ _ _ inv.served c.in_default-serve_next.ensures.serves;
       desk = desk_on _ _ _ inv.desk is.desk;

@@ -1,4 +1,4 @@
-use Rattle.std.proofs.Common.{◌≡◌}
+use Rattle.std.proofs.Common.{false, ◌≡◌}
 use Rattle.connections.specs.Connections.{GoesOn}
 use Rattle.connections.specs.Writing.{Wrote}
 use Rattle.desk.specs.Seen.{desk_seen, DeskGoesOn}
@@ -12,7 +12,7 @@ use Rattle.service.proofs.serving.serve_link.Given as goal
 abbrev pub invariant-loop : goal.invariant-loop
 invariant-loop g l = record {
   served : Wrote (g.N.Link.seen l.fn.link).stream (g.N.Link.seen l.link).stream
-      (GoesOn (in_lane l.lane)
+      (GoesOn (in_lane false l.lane)
       (GoesAlone l.lane (g.C.Clock.seen l.fn.clock) (g.C.Clock.seen l.clock) (g.K.Keeper.seen l.fn.desk.keeper).health.faults (g.K.Keeper.seen l.desk.keeper).health.faults l.fn.desk.board.state l.desk.board.state)
       (unread (g.N.Link.seen l.fn.link).stream) (unused l.buffer (unread (g.N.Link.seen l.link).stream)));
   desk : DeskGoesOn (desk_seen g.K.Keeper.seen g.B.Bell.seen l.fn.desk) (desk_seen g.K.Keeper.seen g.B.Bell.seen l.desk);

@@ -11,7 +11,7 @@ returns-in-Ok g c =
       numbers = refl;
       seen = prefix_self _;
       shared = λ is. is;
-      responds = uncalled_responds _ _ _ _ _ c.args.requested.now _ c.requires.asked none c.in-Ok.ensures.ok;
+      responds = uncalled_responds _ _ _ _ _ _ c.args.requested.now _ c.requires.asked none c.in-Ok.ensures.ok;
       code = c.in-Ok.ensures.code;
       steady = λ sound is. absurd (cc);
     }
@@ -22,7 +22,7 @@ returns-in-Err g c = record {
   numbers = refl;
   seen = prefix_self _;
   shared = λ is. is;
-  responds = nothing_responds _ _ _ _ _;
+  responds = nothing_responds _ _ _ _ _ _;
   code = tt;
   steady = λ sound is. absurd (cc);
 }

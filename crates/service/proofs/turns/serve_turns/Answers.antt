@@ -20,10 +20,10 @@ use Rattle.turn_lock.specs.Passes.{pass_seen}
 use Rattle.service.proofs.turns.serve_turns.Goals as goal
 
 pub returns-in_default-clause-serves : goal.returns-in_default-clause-serves
-returns-in_default-clause-serves g c = ([], gains_still _, unserved (in_lane c.args.lane) _ _ _ (goes_none _ _ _ _))
+returns-in_default-clause-serves g c = ([], gains_still _, unserved (in_lane g.S.Surface.pages c.args.lane) _ _ _ (goes_none _ _ _ _ _))
 
 pub returns-in_default-clause-crosses : goal.returns-in_default-clause-crosses
-returns-in_default-clause-crosses g c = ([], sym (append-nil _), unserved (in_lane c.args.lane) _ _ (Some []) (goes_none _ _ _ _))
+returns-in_default-clause-crosses g c = ([], sym (append-nil _), record { is = unserved (in_lane g.S.Surface.pages c.args.lane) _ _ (Some []) (goes_none _ _ _ _ _); read_out = tt })
 
 pub loop-init : goal.loop-init
 loop-init g c = record {
@@ -32,10 +32,10 @@ loop-init g c = record {
   numbers = refl;
   seen = prefix_self _;
   shared = λ is. is;
-  served = ([], gains_still _, begins _ _ _ _ c.new-buffer.ensures (goes_none _ _ _ _));
+  served = ([], gains_still _, begins _ _ _ _ c.new-buffer.ensures (goes_none _ _ _ _ _));
   crossed = subst (λ b. Crosses (g.N.Link.seen c.args.link.now).crossed (g.N.Link.seen c.args.link.now).crossed
-      (GoesOnBy (in_lane c.args.lane) (GoesInTurns g.A.Opened.desk.opening g.A.Opened.clock.dial c.args.lane (pass_seen c.args.pass) (pass_seen c.args.pass)) [] b)) (sym c.new-buffer.ensures)
-      (begins_crossed (in_lane c.args.lane) _ _ [] (goes_none _ _ _ _));
+      (GoesOnBy (in_lane g.S.Surface.pages c.args.lane) (GoesInTurns g.S.Surface.pages g.A.Opened.desk.opening g.A.Opened.clock.dial c.args.lane (pass_seen c.args.pass) (pass_seen c.args.pass)) [] b)) (sym c.new-buffer.ensures)
+      (begins_crossed (in_lane g.S.Surface.pages c.args.lane) _ _ [] (goes_none _ _ _ _ _));
   link = stays _;
 }
 
@@ -51,11 +51,11 @@ returns-in-Some-ended-clause-serves g c =
     let list = pass_seen c.serve_next_in_turn-ended.result.1 in
     let inv = c.loop.invariant in
     let is = c.serve_next_in_turn-ended.ensures in
-    let ends = subst (λ r. Wrote (g.N.Link.seen c.loop.link).stream (g.N.Link.seen c.serve_next_in_turn-ended.new.link).stream (IsStep (in_lane c.args.lane) (GoesInTurns g.A.Opened.desk.opening g.A.Opened.clock.dial c.args.lane (pass_seen c.loop.pass) (pass_seen c.serve_next_in_turn-ended.result.1))
+    let ends = subst (λ r. Wrote (g.N.Link.seen c.loop.link).stream (g.N.Link.seen c.serve_next_in_turn-ended.new.link).stream (IsStep (in_lane g.S.Surface.pages c.args.lane) (GoesInTurns g.S.Surface.pages g.A.Opened.desk.opening g.A.Opened.clock.dial c.args.lane (pass_seen c.loop.pass) (pass_seen c.serve_next_in_turn-ended.result.1))
     (HasFailed (g.N.Link.seen c.loop.link).health (g.N.Link.seen c.serve_next_in_turn-ended.new.link).health) (unused c.loop.buffer (unread (g.N.Link.seen c.loop.link).stream))
     (unused c.serve_next_in_turn-ended.new.buffer (unread (g.N.Link.seen c.serve_next_in_turn-ended.new.link).stream)) (unread (g.N.Link.seen c.serve_next_in_turn-ended.new.link).stream) r)) c.in-Some-ended.is is.serves in
-    written_end (in_lane c.args.lane) (GoesInTurns opening dial c.args.lane before middle) (GoesInTurns opening dial c.args.lane middle list) (GoesInTurns opening dial c.args.lane before list)
-    (turning.goes_on opening dial c.args.lane before middle list is.seen) _ _ _ _ _ _ _ _ _ (failed_last _ _ (g.N.Link.seen c.serve_next_in_turn-ended.new.link).health inv.link) inv.served ends
+    written_end (in_lane g.S.Surface.pages c.args.lane) (GoesInTurns g.S.Surface.pages opening dial c.args.lane before middle) (GoesInTurns g.S.Surface.pages opening dial c.args.lane middle list) (GoesInTurns g.S.Surface.pages opening dial c.args.lane before list)
+    (turning.goes_on g.S.Surface.pages opening dial c.args.lane before middle list is.seen) _ _ _ _ _ _ _ _ _ (failed_last _ _ (g.N.Link.seen c.serve_next_in_turn-ended.new.link).health inv.link) inv.served ends
 
 pub returns-in-Some-ended-clause-crosses : goal.returns-in-Some-ended-clause-crosses
 returns-in-Some-ended-clause-crosses g c =
@@ -66,10 +66,10 @@ returns-in-Some-ended-clause-crosses g c =
     let list = pass_seen c.serve_next_in_turn-ended.result.1 in
     let inv = c.loop.invariant in
     let is = c.serve_next_in_turn-ended.ensures in
-    let ends = subst (λ r. Crosses (g.N.Link.seen c.loop.link).crossed (g.N.Link.seen c.serve_next_in_turn-ended.new.link).crossed (IsStepBy (in_lane c.args.lane) (GoesInTurns g.A.Opened.desk.opening g.A.Opened.clock.dial c.args.lane (pass_seen c.loop.pass) (pass_seen c.serve_next_in_turn-ended.result.1))
+    let ends = subst (λ r. Crosses (g.N.Link.seen c.loop.link).crossed (g.N.Link.seen c.serve_next_in_turn-ended.new.link).crossed (IsStepBy (in_lane g.S.Surface.pages c.args.lane) (GoesInTurns g.S.Surface.pages g.A.Opened.desk.opening g.A.Opened.clock.dial c.args.lane (pass_seen c.loop.pass) (pass_seen c.serve_next_in_turn-ended.result.1))
     (HasFailed (g.N.Link.seen c.loop.link).health (g.N.Link.seen c.serve_next_in_turn-ended.new.link).health) c.loop.buffer c.serve_next_in_turn-ended.new.buffer r)) c.in-Some-ended.is is.crosses in
-    crossed_end (in_lane c.args.lane) (GoesInTurns opening dial c.args.lane before middle) (GoesInTurns opening dial c.args.lane middle list) (GoesInTurns opening dial c.args.lane before list)
-    (turning.goes_on opening dial c.args.lane before middle list is.seen) _ _ _ _ _ [] c.loop.buffer _ (failed_last _ _ (g.N.Link.seen c.serve_next_in_turn-ended.new.link).health inv.link) inv.crossed ends
+    crossed_end (in_lane g.S.Surface.pages c.args.lane) (GoesInTurns g.S.Surface.pages opening dial c.args.lane before middle) (GoesInTurns g.S.Surface.pages opening dial c.args.lane middle list) (GoesInTurns g.S.Surface.pages opening dial c.args.lane before list)
+    (turning.goes_on g.S.Surface.pages opening dial c.args.lane before middle list is.seen) _ _ _ _ _ [] c.loop.buffer _ (failed_last _ _ (g.N.Link.seen c.serve_next_in_turn-ended.new.link).health inv.link) inv.crossed ends
 
 pub loop-preserved : goal.loop-preserved
 loop-preserved g c =
@@ -80,10 +80,10 @@ loop-preserved g c =
     let list = pass_seen c.serve_next_in_turn-ended.result.1 in
     let inv = c.loop.invariant in
     let is = c.serve_next_in_turn-ended.ensures in
-    let more = subst (λ r. Wrote (g.N.Link.seen c.loop.link).stream (g.N.Link.seen c.serve_next_in_turn-ended.new.link).stream (IsStep (in_lane c.args.lane) (GoesInTurns g.A.Opened.desk.opening g.A.Opened.clock.dial c.args.lane (pass_seen c.loop.pass) (pass_seen c.serve_next_in_turn-ended.result.1))
+    let more = subst (λ r. Wrote (g.N.Link.seen c.loop.link).stream (g.N.Link.seen c.serve_next_in_turn-ended.new.link).stream (IsStep (in_lane g.S.Surface.pages c.args.lane) (GoesInTurns g.S.Surface.pages g.A.Opened.desk.opening g.A.Opened.clock.dial c.args.lane (pass_seen c.loop.pass) (pass_seen c.serve_next_in_turn-ended.result.1))
     (HasFailed (g.N.Link.seen c.loop.link).health (g.N.Link.seen c.serve_next_in_turn-ended.new.link).health) (unused c.loop.buffer (unread (g.N.Link.seen c.loop.link).stream))
     (unused c.serve_next_in_turn-ended.new.buffer (unread (g.N.Link.seen c.serve_next_in_turn-ended.new.link).stream)) (unread (g.N.Link.seen c.serve_next_in_turn-ended.new.link).stream) r)) c.in_default-ended.is is.serves in
-    let crosses = subst (λ r. Crosses (g.N.Link.seen c.loop.link).crossed (g.N.Link.seen c.serve_next_in_turn-ended.new.link).crossed (IsStepBy (in_lane c.args.lane) (GoesInTurns g.A.Opened.desk.opening g.A.Opened.clock.dial c.args.lane (pass_seen c.loop.pass) (pass_seen c.serve_next_in_turn-ended.result.1))
+    let crosses = subst (λ r. Crosses (g.N.Link.seen c.loop.link).crossed (g.N.Link.seen c.serve_next_in_turn-ended.new.link).crossed (IsStepBy (in_lane g.S.Surface.pages c.args.lane) (GoesInTurns g.S.Surface.pages g.A.Opened.desk.opening g.A.Opened.clock.dial c.args.lane (pass_seen c.loop.pass) (pass_seen c.serve_next_in_turn-ended.result.1))
     (HasFailed (g.N.Link.seen c.loop.link).health (g.N.Link.seen c.serve_next_in_turn-ended.new.link).health) c.loop.buffer c.serve_next_in_turn-ended.new.buffer r)) c.in_default-ended.is is.crosses in
     record {
       lock = is.pass.0 ∙ inv.lock;
@@ -91,17 +91,17 @@ loop-preserved g c =
       numbers = is.numbers ∙ inv.numbers;
       seen = prefix_trans before middle list inv.seen is.seen;
       shared = λ shared. is.shared (inv.shared shared);
-      served = written_on (in_lane c.args.lane) (GoesInTurns opening dial c.args.lane before middle) (GoesInTurns opening dial c.args.lane middle list) (GoesInTurns opening dial c.args.lane before list)
-          (turning.goes_on opening dial c.args.lane before middle list is.seen) _ _ _ _ _ _ inv.served more;
-      crossed = crossed_on (in_lane c.args.lane) (GoesInTurns opening dial c.args.lane before middle) (GoesInTurns opening dial c.args.lane middle list) (GoesInTurns opening dial c.args.lane before list)
-          (turning.goes_on opening dial c.args.lane before middle list is.seen) _ _ _ [] c.loop.buffer c.serve_next_in_turn-ended.new.buffer inv.crossed crosses;
+      served = written_on (in_lane g.S.Surface.pages c.args.lane) (GoesInTurns g.S.Surface.pages opening dial c.args.lane before middle) (GoesInTurns g.S.Surface.pages opening dial c.args.lane middle list) (GoesInTurns g.S.Surface.pages opening dial c.args.lane before list)
+          (turning.goes_on g.S.Surface.pages opening dial c.args.lane before middle list is.seen) _ _ _ _ _ _ inv.served more;
+      crossed = crossed_on (in_lane g.S.Surface.pages c.args.lane) (GoesInTurns g.S.Surface.pages opening dial c.args.lane before middle) (GoesInTurns g.S.Surface.pages opening dial c.args.lane middle list) (GoesInTurns g.S.Surface.pages opening dial c.args.lane before list)
+          (turning.goes_on g.S.Surface.pages opening dial c.args.lane before middle list is.seen) _ _ _ [] c.loop.buffer c.serve_next_in_turn-ended.new.buffer inv.crossed crosses;
       link = health.goes_on _ _ _ inv.link is.link;
     }
 
 pub returns-in-Some-ended-clause-steady_link : goal.returns-in-Some-ended-clause-steady_link
 returns-in-Some-ended-clause-steady_link g c =
     let serves = returns-in-Some-ended-clause-serves g c in
-    λ sound. not_by_link (in_lane c.args.lane) _ _ _ _ _ _ serves.2 (λ failed. failed.1 sound)
+    λ sound. not_by_link (in_lane g.S.Surface.pages c.args.lane) _ _ _ _ _ _ serves.2 (λ failed. failed.1 sound)
 
 pub returns-in-Some-ended-clause-shared : goal.returns-in-Some-ended-clause-shared
 returns-in-Some-ended-clause-shared g c = λ shared. c.serve_next_in_turn-ended.ensures.shared (c.loop.invariant.shared shared)

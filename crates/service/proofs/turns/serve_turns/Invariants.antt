@@ -20,9 +20,9 @@ invariant-loop g l = record {
   seen : IsPrefix (pass_seen l.fn.pass) (pass_seen l.pass);
   shared : IsSharedList g.A.Opened.desk g.A.Opened.clock (pass_seen l.fn.pass) → IsSharedList g.A.Opened.desk g.A.Opened.clock (pass_seen l.pass);
   served : Wrote (g.N.Link.seen l.fn.link).stream (g.N.Link.seen l.link).stream
-      (GoesOn (in_lane l.lane) (GoesInTurns g.A.Opened.desk.opening g.A.Opened.clock.dial l.lane (pass_seen l.fn.pass) (pass_seen l.pass)) (unread (g.N.Link.seen l.fn.link).stream)
+      (GoesOn (in_lane g.S.Surface.pages l.lane) (GoesInTurns g.S.Surface.pages g.A.Opened.desk.opening g.A.Opened.clock.dial l.lane (pass_seen l.fn.pass) (pass_seen l.pass)) (unread (g.N.Link.seen l.fn.link).stream)
       (unused l.buffer (unread (g.N.Link.seen l.link).stream)));
   crossed : Crosses (g.N.Link.seen l.fn.link).crossed (g.N.Link.seen l.link).crossed
-      (GoesOnBy (in_lane l.lane) (GoesInTurns g.A.Opened.desk.opening g.A.Opened.clock.dial l.lane (pass_seen l.fn.pass) (pass_seen l.pass)) [] l.buffer);
+      (GoesOnBy (in_lane g.S.Surface.pages l.lane) (GoesInTurns g.S.Surface.pages g.A.Opened.desk.opening g.A.Opened.clock.dial l.lane (pass_seen l.fn.pass) (pass_seen l.pass)) [] l.buffer);
   link : LinkGoesOn (g.N.Link.seen l.fn.link) (g.N.Link.seen l.link);
 }

@@ -1,9 +1,9 @@
 use Rattle.std.proofs.Common.{ℕ, ◌≤◌, map}
 use Rattle.std.specs.List.{concat}
 use Rattle.scripts.proofs.Below.{rise_lower}
-use Rattle.scripts.specs.Below.{numbers_of, made_items, DeskAt, desk_at}
+use Rattle.scripts.specs.Below.{numbers_of, DeskAt, desk_at}
 use Rattle.desk_io.specs.Over.{Over, over}
-use Rattle.commands.proofs.Opened.{ends_map, items_lower}
+use Rattle.commands.proofs.Opened.{ends_map}
 use Rattle.commands.specs.Faults.{Outcome}
 use Rattle.commands.specs.Working.{Makes, since}
 use Rattle.commands.proofs.works.MakingWorkSteps.work.Goals as goal
@@ -23,7 +23,18 @@ makes_since number count desk answer makes less under = ends_map answer makes
     })
     (λ part. record {
       came = part.came;
-      given = items_lower less desk.before.kept desk.after.kept desk.before.state (made_items number count part.came) desk.after.state under part.given;
+      given = record {
+        front = part.given.front;
+        left = part.given.left;
+        choices = part.given.choices;
+        whole = part.given.whole;
+        kept = part.given.kept;
+        counted = rise_lower less desk.before.kept.faults (concat (map numbers_of part.given.choices)) part.given.kept.faults under part.given.counted;
+        stored = part.given.stored;
+        later = part.given.later;
+        state = part.given.state;
+      };
+      begins = part.begins;
     })
 
 pub returns-clause-does : goal.returns-clause-does

@@ -12,8 +12,8 @@ use Rattle.commands.proofs.works.PlanningWorkSteps.work.Goals as goal
 
 planned_since : (script : List ℕ) (desk : Over DeskAt) (answer : Outcome) → RunsPlanned script desk answer → (less : ℕ) → less ≤ desk.before.kept.faults → RunsPlanned script (since less desk) answer
 planned_since script desk answer runs less under = ends_map answer runs
-    (λ text is. planned_lower less desk.before.kept.faults desk.after.kept.faults desk.before.state script desk.after.state text under is)
-    (λ part. part_lower less desk.before.kept.faults desk.after.kept.faults desk.before.state (planned_items (lines_of script)) desk.after.state under part)
+    (λ text is. planned_lower less desk.before.kept desk.after.kept desk.before.state script desk.after.state text under is)
+    (λ part. part_lower less desk.before.kept desk.after.kept desk.before.state (planned_items (lines_of script)) desk.after.state under part)
 
 pub returns-clause-does : goal.returns-clause-does
 returns-clause-does g c = λ less under.
