@@ -1,0 +1,4 @@
+pub mod Found
+pub mod TextLaws
+pub mod Whole
+pub mod RefusalLaws
